@@ -1,0 +1,262 @@
+-- What holds of each compartment after every list of calls: its segments are good, in order and at most 64, an address
+-- that is not held has no value, and no count is above 65,535.
+use Prim.Native.Nat.{ℕ, zero, suc, _+_, _-_, _<_, _≤_}
+use mathlib.Core.Path.{_≡_, refl, subst}
+use mathlib.Core.Bool.{Bool, true, false, _&&_, _||_}
+use mathlib.Core.List.{List, [], _∷_}
+use lib.ListN.{length}
+use native.Mathlib.Omega.{arith}
+use borrow.Author.Tests.{ltb-true, eqb-true, eqb-false, ne-eqb}
+use Rattle.definitions.specs.Tests.{_<?_, _≤?_, _=?_, if_then_else_, bit, host, hostUp, guestUp, all, any}
+use Rattle.definitions.specs.Rights.{READ, WRITE, EXEC, SUPER, UNCACHEABLE, named}
+use Rattle.definitions.specs.Values.{nothing, raise, lower, changedIn}
+use Rattle.definitions.specs.Regions.{addressesFrom, addresses}
+use Rattle.definitions.specs.Segments.{segment, isIdentity, mapped, hostInside, hostCut, unmapped, spanInside, placeAll, spanCut, unmappedGpa, inOrder}
+use Rattle.definitions.specs.Reckoning.{Compartment, empty, withValues, withSegments, reckon}
+use Rattle.definitions.specs.Questions.{accepted, everyNamed, canRaise, onUnmapGpa}
+use Rattle.definitions.specs.Calls.{State, start, compartment, answerIn, next, after}
+use Rattle.definitions.specs.declared.addr.HostAddr.{HostAddr}
+use Rattle.definitions.specs.declared.addr.GuestAddr.{GuestAddr}
+use Rattle.definitions.specs.declared.region.Values.{Values}
+use Rattle.definitions.specs.declared.remapper.Segment.{Segment}
+use Rattle.definitions.specs.declared.call.Call.{Call}
+use Rattle.definitions.specs.declared.call.Call.the-variants.{Add, Remove, Refcount, Overlaps, Map, Unmap, UnmapGpa, Permissions, Remap, Mappings}
+use Rattle.definitions.proofs.Bools.{Where, inn, low, high, where?, both}
+use Rattle.definitions.proofs.Lists.{Blank}
+use Rattle.definitions.proofs.RegionsAre.{raised-blank, lowered-blank}
+use Rattle.definitions.proofs.SegmentLaws.{AllGood, place-good, length-place, place-order, hostCut-good, length-hostCut, spanCut-good, length-spanCut}
+use Rattle.definitions.proofs.Passed.{AddPassed, MapPassed, UnmapPassed, UnmapGpaPassed, add-passed, map-passed, unmap-passed, unmapGpa-passed}
+use Rattle.definitions.proofs.Reckoned.{start-empty, always-next, always}
+
+-- holders and the four counts fit 16 bits, and the mark is one bit
+pub record Counted (v : Values) : Type 0 where
+  pub refcount : v .refcount ≤ 65535
+  pub read : v .counters .read ≤ 65535
+  pub write : v .counters .write ≤ 65535
+  pub exec : v .counters .exec ≤ 65535
+  pub supervisor : v .counters .supervisor ≤ 65535
+  pub uncacheable : v .counters .uncacheable ≤ 1
+
+pub record Stored (c : Compartment) : Type 0 where
+  pub good : AllGood (c .segments)
+  pub order : inOrder (c .segments) ≡ true
+  pub few : length (c .segments) ≤ 64
+  pub blank : Blank (c .values)
+  pub counted : (x : HostAddr) → Counted (c .values x)
+
+-- Counts
+
+nothing-counted : Counted nothing
+unfolding nothing
+nothing-counted = record {
+  refcount = omega arith;
+  read = omega arith;
+  write = omega arith;
+  exec = omega arith;
+  supervisor = omega arith;
+  uncacheable = omega arith;
+}
+
+-- question 4 of one count
+raised-count : (n m : ℕ) → n ≤ 65535 → m ≤ 1 → ((m =? 0) || (n <? 65535)) ≡ true → n + m ≤ 65535
+raised-count n m p q h = go (m =? 0) refl h
+  where
+    go : (t : Bool) → (m =? 0) ≡ t → (t || (n <? 65535)) ≡ true → n + m ≤ 65535
+    go true d k = omega (arith, eqb-true m 0 d)
+    go false d k = omega (arith, ltb-true n 65535 k)
+
+-- the four counts' tests
+pub every-named : (p : ℕ → Bool) (r : ℕ) (v : Values) → everyNamed p r v ≡ true
+    → (((named READ r =? 0) || p (v .counters .read)) ≡ true) × (((named WRITE r =? 0) || p (v .counters .write)) ≡ true)
+    × (((named EXEC r =? 0) || p (v .counters .exec)) ≡ true) × (((named SUPER r =? 0) || p (v .counters .supervisor)) ≡ true)
+unfolding everyNamed
+every-named p r v h =
+    let w = (named READ r =? 0) || p (v .counters .read) in
+    let x = (named WRITE r =? 0) || p (v .counters .write) in
+    let y = (named EXEC r =? 0) || p (v .counters .exec) in
+    let z = (named SUPER r =? 0) || p (v .counters .supervisor) in
+    let q3 = both (w && x && y) z h in
+    let q2 = both (w && x) y (q3 .0) in
+    let q1 = both w x (q2 .0) in
+    (q1 .0, q1 .1, q2 .1, q3 .1)
+
+raise-counted : (r : ℕ) (v : Values) → Counted v → ((v .refcount <? 65535) && everyNamed (λ n. n <? 65535) r v) ≡ true
+    → Counted (raise r v)
+unfolding raise named
+raise-counted r v c h =
+    let p = both (v .refcount <? 65535) (everyNamed (λ n. n <? 65535) r v) h in
+    let q = every-named (λ n. n <? 65535) r v (p .1) in
+    record {
+      refcount = omega (arith, ltb-true (v .refcount) 65535 (p .0));
+      read = raised-count (v .counters .read) (named READ r) (c .read) (omega arith) (q .0);
+      write = raised-count (v .counters .write) (named WRITE r) (c .write) (omega arith) (q .1);
+      exec = raised-count (v .counters .exec) (named EXEC r) (c .exec) (omega arith) (q .2);
+      supervisor = raised-count (v .counters .supervisor) (named SUPER r) (c .supervisor) (omega arith) (q .3);
+      uncacheable = mark (v .refcount =? 0);
+    }
+  where
+    mark : (t : Bool) → (if t then named UNCACHEABLE r else v .counters .uncacheable) ≤ 1
+    mark true = omega arith
+    mark false = c .uncacheable
+
+lower-counted : (r : ℕ) (v : Values) → Counted v → Counted (lower r v)
+unfolding lower
+lower-counted r v c = go (v .refcount ≤? 1) refl
+  where
+    go : (t : Bool) → (v .refcount ≤? 1) ≡ t → Counted (lower r v)
+    go true d = simp d nothing-counted
+    go false d =
+        simp d (record {
+          refcount = omega arith;
+          read = omega arith;
+          write = omega arith;
+          exec = omega arith;
+          supervisor = omega arith;
+          uncacheable = omega arith;
+        })
+
+-- what passes for all addresses of a range passes for each
+all-from : (p : HostAddr → Bool) (n y : ℕ) (x : HostAddr) → all p (addressesFrom y n) ≡ true → y ≤ x .0 → x .0 < y + n
+    → p x ≡ true
+unfolding addressesFrom host
+all-from p zero y x h i j = absurd (omega arith)
+all-from p (suc n) y x h i j =
+    go (y =? x .0) refl (both (p (host y)) (all p (addressesFrom (suc y) n)) h) (λ m l r. all-from p n (suc y) x m l r)
+  where
+    go : (t : Bool) → (y =? x .0) ≡ t → (p (host y) ≡ true) × (all p (addressesFrom (suc y) n) ≡ true)
+        → (all p (addressesFrom (suc y) n) ≡ true → suc y ≤ x .0 → x .0 < suc y + n → p x ≡ true) → p x ≡ true
+    go true d b ih = subst (λ (i : ℕ). p (host i) ≡ true) (eqb-true y (x .0) d) (b .0)
+    go false d b ih =
+        let ne : y ≡ x .0 → ⊥ = eqb-false y (x .0) d in ih (b .1) (omega arith) (omega arith)
+
+pub all-addresses : (p : HostAddr → Bool) (a e x : HostAddr) → all p (addresses a e) ≡ true → a .0 ≤ x .0 → x .0 < e .0
+    → p x ≡ true
+unfolding addresses
+all-addresses p a e x h i j = all-from p (e .0 - a .0) (a .0) x h i (omega arith)
+
+changed-counted : (g : Values → Values) (a e : HostAddr) (f : HostAddr → Values) → ((x : HostAddr) → Counted (f x))
+    → ((x : HostAddr) → a .0 ≤ x .0 → x .0 < e .0 → Counted (g (f x))) → (x : HostAddr) → Counted (changedIn g a e f x)
+unfolding changedIn
+changed-counted g a e f c h x = go (where? (a .0) (e .0) (x .0))
+  where
+    go : Where (a .0) (e .0) (x .0) → Counted (changedIn g a e f x)
+    go (inn d i j) = simp d (h x i j)
+    go (low d i) = simp d (c x)
+    go (high d i j) = simp d (c x)
+
+-- One accepted call each
+
+module _ (n : ℕ) (c : Compartment) (s : Stored c) where
+  add-stored : (k : ℕ) (a e : HostAddr) (r : ℕ) → AddPassed n c a e r → Stored (reckon (Add k a e r) c)
+  unfolding reckon withValues canRaise
+  add-stored k a e r p = record {
+    good = s .good;
+    order = s .order;
+    few = s .few;
+    blank = raised-blank a e r (c .values) (s .blank);
+    counted = changed-counted (raise r) a e (c .values) (s .counted) (λ x i j.
+        raise-counted r (c .values x) (s .counted x)
+        (all-addresses (λ x. (c .values x .refcount <? 65535) && everyNamed (λ n. n <? 65535) r (c .values x)) a e x
+        (p .counts (ne-eqb (a .0) (e .0) (λ q. omega arith))) i j));
+  }
+
+  remove-stored : (k : ℕ) (a e : HostAddr) (r : ℕ) → Stored (reckon (Remove k a e r) c)
+  unfolding reckon withValues
+  remove-stored k a e r = record {
+    good = s .good;
+    order = s .order;
+    few = s .few;
+    blank = lowered-blank a e r (c .values) (s .blank);
+    counted =
+        changed-counted (lower r) a e (c .values) (s .counted) (λ x i j. lower-counted r (c .values x) (s .counted x));
+  }
+
+  -- another list of segments
+  segments-stored : (ss : List Segment) → AllGood ss → inOrder ss ≡ true → length ss ≤ 64 → Stored (withSegments c ss)
+  unfolding withSegments
+  segments-stored ss g o l = record { good = g; order = o; few = l; blank = s .blank; counted = s .counted }
+
+  map-stored : (k : ℕ) (h : HostAddr) (g : GuestAddr) (m t : ℕ) → MapPassed c h g m t → Stored (reckon (Map k h g m t) c)
+  unfolding reckon mapped
+  map-stored k h g m t p = go (isIdentity h g t) refl
+    where
+      go : (b : Bool) → isIdentity h g t ≡ b → Stored (reckon (Map k h g m t) c)
+      go true d = simp d (segments-stored (c .segments) (s .good) (s .order) (s .few))
+      go false d =
+          let slot = p .slot d in
+          simp d (segments-stored _ (place-good _ (c .segments) (p .good) (s .good)) (place-order _ (c .segments) (s .order))
+          (omega (arith, length-place (segment h g m t) (c .segments))))
+
+  unmap-stored : (k : ℕ) (h : HostAddr) (m : ℕ) → UnmapPassed c h m → Stored (reckon (Unmap k h m) c)
+  unfolding reckon unmapped hostUp
+  unmap-stored k h m p =
+      segments-stored _ (hostCut-good h (hostUp h m) (c .segments) (omega arith) (s .good)) (p .order)
+      (go (any (hostInside h (hostUp h m)) (c .segments)) refl)
+    where
+      go : (b : Bool) → any (hostInside h (hostUp h m)) (c .segments) ≡ b → length (hostCut h (hostUp h m) (c .segments)) ≤ 64
+      go true d = omega (arith, p .slot d, simp d at (length-hostCut h (hostUp h m) (c .segments)))
+      go false d = omega (arith, s .few, simp d at (length-hostCut h (hostUp h m) (c .segments)))
+
+  cut-stored : (g : GuestAddr) (m : ℕ) → (m =? 0) ≡ false → UnmapGpaPassed c g m → Stored (withSegments c (spanCut g (guestUp g m) (c .segments)))
+  unfolding unmappedGpa guestUp
+  cut-stored g m z p =
+      segments-stored _ (spanCut-good g (guestUp g m) (c .segments) (omega arith) (p .single) (s .good)) (simp z at (p .order))
+      (go (any (spanInside g (guestUp g m)) (c .segments)) refl)
+    where
+      more : length (spanCut g (guestUp g m) (c .segments)) ≤ length (c .segments) + bit (any (spanInside g (guestUp g m)) (c .segments))
+      more = length-spanCut g (guestUp g m) (c .segments) (omega arith) (p .alone)
+
+      go : (b : Bool) → any (spanInside g (guestUp g m)) (c .segments) ≡ b → length (spanCut g (guestUp g m) (c .segments)) ≤ 64
+      go true d = omega (arith, p .slot d, simp d at more)
+      go false d = omega (arith, s .few, simp d at more)
+
+  -- no segment, none after
+  none-left : (g e : GuestAddr) (ss : List Segment) → length ss ≡ 0 → spanCut g e ss ≡ ss
+  unfolding spanCut placeAll
+  none-left g e [] z = refl
+  none-left g e (t ∷ ts) z = absurd (omega arith)
+
+  unmapGpa-stored : (k : ℕ) (g : GuestAddr) (m : ℕ) → accepted (onUnmapGpa c g m) ≡ true → Stored (reckon (UnmapGpa k g m) c)
+  unfolding reckon unmappedGpa
+  unmapGpa-stored k g m h = go (m =? 0) refl (length (c .segments) =? 0) refl
+    where
+      same : Stored (withSegments c (c .segments))
+      same = segments-stored (c .segments) (s .good) (s .order) (s .few)
+
+      go : (b : Bool) → (m =? 0) ≡ b → (t : Bool) → (length (c .segments) =? 0) ≡ t → Stored (reckon (UnmapGpa k g m) c)
+      go true d t f = simp d same
+      go false d true f =
+          simp d (rw (none-left g (guestUp g m) (c .segments) (eqb-true (length (c .segments)) 0 f)) same)
+      go false d false f = simp d (cut-stored g m d (unmapGpa-passed c g m h (simp (d, f))))
+
+call-stored : (n : ℕ) (c : Compartment) (call : Call) → Stored c → accepted (answerIn n c call) ≡ true → Stored (reckon call c)
+unfolding answerIn reckon
+call-stored n c (Add k a e r) s h = add-stored n c s k a e r (add-passed n c a e r h)
+call-stored n c (Remove k a e r) s h = remove-stored n c s k a e r
+call-stored n c (Map k h g m t) s p = map-stored n c s k h g m t (map-passed c h g m t p)
+call-stored n c (Unmap k h m) s p = unmap-stored n c s k h m (unmap-passed c h m p)
+call-stored n c (UnmapGpa k g m) s p = unmapGpa-stored n c s k g m p
+call-stored n c (Refcount k a e) s h = s
+call-stored n c (Overlaps k g m) s h = s
+call-stored n c (Permissions k i m) s h = s
+call-stored n c (Remap k i m) s h = s
+call-stored n c (Mappings k) s h = s
+
+empty-stored : Stored empty
+unfolding empty inOrder
+empty-stored = record { good = tt; order = refl; few = omega arith; blank = λ x h. refl; counted = λ x. nothing-counted }
+
+-- Every list of calls
+
+pub stored-next : (s : State) (c : Call) → length s ≡ 8 → ((k : ℕ) → Stored (compartment s k)) → (k : ℕ)
+    → Stored (compartment (next s c) k)
+stored-next = always-next Stored call-stored
+
+pub stored : (calls : List Call) (k : ℕ) → Stored (compartment (after calls) k)
+stored = always Stored call-stored empty-stored
+
+pub start-stored : (k : ℕ) → Stored (compartment start k)
+start-stored k = rw (start-empty k) empty-stored
+
+pub bounded : (calls : List Call) (k : ℕ) (x : HostAddr) → Counted (compartment (after calls) k .values x)
+bounded calls k x = stored calls k .counted x

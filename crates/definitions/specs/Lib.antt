@@ -1,0 +1,13 @@
+pub mod Tests
+pub mod Rights
+pub mod Values
+pub mod Regions
+pub mod Segments
+pub mod Stream
+pub mod Pages
+pub mod Reckoning
+pub mod Agreement
+pub mod Questions
+pub mod Calls
+pub mod Script
+pub mod Layouts

@@ -1,0 +1,35 @@
+-- Document 01, "The stream (`remap`)" and "The reckoning": pages of groups of numbers, of any width.
+use Prim.Native.Nat.{ℕ, _+_, _*_, _/_}
+use mathlib.Core.List.{List, [], _∷_, _++_}
+use lib.ListN.{length, take, drop}
+use Rattle.definitions.specs.Tests.{each}
+use Rattle.definitions.specs.declared.region.MemoryPermission.{MemoryPermission}
+use Rattle.definitions.specs.declared.remapper.Mapping.{Mapping}
+
+-- groups of five numbers (hpa, gpa, size, repeat, rights); of a permission start, end, rights
+unfoldable pub mappingGroup : Mapping → List ℕ
+mappingGroup m = m .hpa .0 ∷ m .gpa .0 ∷ m .size ∷ m .repeat ∷ m .ops .0 ∷ []
+
+unfoldable pub permissionGroup : MemoryPermission → List ℕ
+permissionGroup p = p .start .0 ∷ p .end .0 ∷ p .ops .0 ∷ []
+
+-- A page read from group k fills as many whole groups as the lent slice and the list allow, and answers how many.
+unfoldable pub page : ℕ → List (List ℕ) → ℕ → ℕ → List (List ℕ)
+page width groups k room = take (room / width) (drop k groups)
+
+-- The rest of the slice is untouched.
+unfoldable pub filled : ℕ → List (List ℕ) → ℕ → List ℕ → List ℕ
+filled width groups k slice =
+    let read = page width groups k (length slice) in
+    each (λ group. group) read ++ drop (width * length read) slice
+
+-- Pages start at 0, then at the sum of their answers: the groups that slices of these lengths take, from group k on, and
+-- where the last of them ends
+unfoldable pub pagesFrom : ℕ → List (List ℕ) → ℕ → List ℕ → List (List ℕ)
+pagesFrom width groups k [] = []
+pagesFrom width groups k (room ∷ rooms) =
+    page width groups k room ++ pagesFrom width groups (k + length (page width groups k room)) rooms
+
+unfoldable pub pagesEnd : ℕ → List (List ℕ) → ℕ → List ℕ → ℕ
+pagesEnd width groups k [] = k
+pagesEnd width groups k (room ∷ rooms) = pagesEnd width groups (k + length (page width groups k room)) rooms

@@ -1,0 +1,147 @@
+-- Document 01, "Questions in order, with the number for no".
+use Prim.Native.Nat.{ℕ, _+_, _-_, _*_}
+use mathlib.Core.Bool.{Bool, true, false, not, _&&_, _||_}
+use mathlib.Core.List.{List, [], _∷_}
+use lib.ListN.{length}
+use Rattle.definitions.specs.Tests.{_<?_, _≤?_, _=?_, if_then_else_, bit, fits, hostUp, guestUp, all, any, count, keep}
+use Rattle.definitions.specs.Rights.{READ, WRITE, EXEC, SUPER, named}
+use Rattle.definitions.specs.Regions.{meets, splits, regions, addresses, addChange, removeChange, newRecords, freed, refcountOf}
+use Rattle.definitions.specs.Segments.{hostInside, hostEnd, overlaps, isIdentity, unmapped, touched, spanWhole, spanInside, unmappedGpa, inOrder}
+use Rattle.definitions.specs.Reckoning.{Compartment}
+use Rattle.definitions.specs.declared.addr.HostAddr.{HostAddr}
+use Rattle.definitions.specs.declared.addr.GuestAddr.{GuestAddr}
+use Rattle.definitions.specs.declared.region.Values.{Values}
+use Rattle.definitions.specs.declared.region.Region.{Region}
+use Rattle.definitions.specs.declared.remapper.Segment.{Segment}
+use Rattle.definitions.specs.declared.answer.Refusal.{Refusal}
+use Rattle.definitions.specs.declared.answer.Refusal.the-variants.{NoCompartment, InvalidMemOps, InvalidRange, CountFull, OutOfMemory, InvalidRegion, EndedBefore, CountEmpty, EmptySegment, Overflow, AlreadyAliased, NoSlot, FrontCut, OutOfOrder, Repeated, OthersTouched, Malformed}
+use Rattle.definitions.specs.declared.answer.Answer.{Answer}
+use Rattle.definitions.specs.declared.answer.Answer.the-variants.{Accepted, Refused}
+
+-- the paper's number of each refusal
+abbrev pub refusalNumber : Refusal → ℕ
+refusalNumber NoCompartment = 1
+refusalNumber InvalidMemOps = 2
+refusalNumber InvalidRange = 3
+refusalNumber CountFull = 4
+refusalNumber OutOfMemory = 5
+refusalNumber InvalidRegion = 6
+refusalNumber EndedBefore = 7
+refusalNumber CountEmpty = 8
+refusalNumber EmptySegment = 9
+refusalNumber Overflow = 10
+refusalNumber AlreadyAliased = 11
+refusalNumber NoSlot = 12
+refusalNumber FrontCut = 13
+refusalNumber OutOfOrder = 14
+refusalNumber Repeated = 15
+refusalNumber OthersTouched = 16
+refusalNumber Malformed = 17
+
+-- the answer's number (0 or refusal), and its value (0 when refused)
+abbrev pub numberOf : Answer → ℕ
+numberOf (Accepted v) = 0
+numberOf (Refused r) = refusalNumber r
+
+abbrev pub valueOf : Answer → ℕ
+valueOf (Accepted v) = v
+valueOf (Refused r) = 0
+
+abbrev pub accepted : Answer → Bool
+accepted (Accepted v) = true
+accepted (Refused r) = false
+
+-- questions in order, each with the refusal for no; with no no, the answer
+unfoldable pub ask : List (Bool × Refusal) → Answer → Answer
+ask [] answer = answer
+ask (q ∷ qs) answer = if q .0 then ask qs answer else Refused (q .1)
+
+-- do the counts that the rights name, but uncacheable, all pass this test?
+unfoldable pub everyNamed : (ℕ → Bool) → ℕ → Values → Bool
+everyNamed p rights v =
+    ((named READ rights =? 0) || p (v .counters .read)) && ((named WRITE rights =? 0) || p (v .counters .write))
+    && ((named EXEC rights =? 0) || p (v .counters .exec)) && ((named SUPER rights =? 0) || p (v .counters .supervisor))
+
+-- 4: holders and every count to be raised below 65,535?
+unfoldable pub canRaise : HostAddr → HostAddr → ℕ → (HostAddr → Values) → Bool
+canRaise a e rights f =
+    all (λ x. (f x .refcount <? 65535) && everyNamed (λ n. n <? 65535) rights (f x)) (addresses a e)
+
+-- 5 of a remove: a free record at each cut, beside the records in use?
+unfoldable pub cutsFit : ℕ → HostAddr → HostAddr → List Region → Bool
+cutsFit used a e rs =
+    let atStart = used + bit (any (splits a) rs) in
+    (atStart ≤? 1024) && (not (any (splits e) rs) || (atStart - freed a e rs + 1 ≤? 1024))
+
+-- 6: does a record begin at or below start? 7: does the last such reach above start?
+unfoldable pub begun : HostAddr → List Region → List Region
+begun a rs = keep (λ q. q .start .0 ≤? a .0) rs
+
+unfoldable pub lastEnd : ℕ → List Region → ℕ
+lastEnd end [] = end
+lastEnd end (q ∷ qs) = lastEnd (q .end .0) qs
+
+-- 8: has each record touched a count above 0 for every named right but uncacheable?
+unfoldable pub canLower : HostAddr → HostAddr → ℕ → List Region → Bool
+canLower a e rights rs = all (λ q. everyNamed (λ n. 0 <? n) rights (q .values)) (keep (meets a e) rs)
+
+-- 13: a stored segment with hpa at or above the range's start and below its end, and its own end above the range's end
+unfoldable pub frontCut : HostAddr → HostAddr → Segment → Bool
+frontCut a e s = (a .0 ≤? s .hpa .0) && (s .hpa .0 <? e .0) && (e .0 <? hostEnd s .0)
+
+-- add and remove: 2, 3, (equal: done), then 4 and 5, or 6, 7, 5 and 8; beside the records in use in all compartments
+unfoldable pub ranged : HostAddr → HostAddr → ℕ → Answer → Answer
+ranged a e rights answer =
+    ask ((rights <? 32, InvalidMemOps) ∷ (a .0 ≤? e .0, InvalidRange) ∷ []) (if a .0 =? e .0 then Accepted 0 else answer)
+
+unfoldable pub onAdd : ℕ → Compartment → HostAddr → HostAddr → ℕ → Answer
+onAdd used c a e rights =
+    ranged a e rights
+    (ask
+    ((canRaise a e rights (c .values), CountFull) ∷ (used + newRecords a e (c .values) ≤? 1024, OutOfMemory) ∷ [])
+    (Accepted (addChange a e rights (c .values))))
+
+unfoldable pub onRemove : ℕ → Compartment → HostAddr → HostAddr → ℕ → Answer
+onRemove used c a e rights =
+    let rs = regions (c .values) in
+    ranged a e rights
+    (ask
+    ((1 ≤? length (begun a rs), InvalidRegion) ∷ (a .0 <? lastEnd 0 (begun a rs), EndedBefore)
+    ∷ (cutsFit used a e rs, OutOfMemory) ∷ (canLower a e rights rs, CountEmpty) ∷ [])
+    (Accepted (removeChange a e rights (c .values))))
+
+unfoldable pub onRefcount : Compartment → HostAddr → HostAddr → Answer
+onRefcount c a e = Accepted (refcountOf a e (regions (c .values)))
+
+unfoldable pub onOverlaps : Compartment → GuestAddr → ℕ → Answer
+onOverlaps c g n = ask ((fits (g .0 + n), Overflow) ∷ []) (Accepted (bit (overlaps g n (c .segments))))
+
+unfoldable pub onMap : Compartment → HostAddr → GuestAddr → ℕ → ℕ → Answer
+onMap c h g n t =
+    ask
+    (((1 ≤? n) && (1 ≤? t), EmptySegment) ∷ (fits (n * t) && fits (g .0 + n * t) && fits (h .0 + n), Overflow)
+    ∷ (not (overlaps g (n * t) (c .segments)), AlreadyAliased) ∷ [])
+    (if isIdentity h g t then Accepted 0 else ask ((length (c .segments) <? 64, NoSlot) ∷ []) (Accepted 0))
+
+unfoldable pub onUnmap : Compartment → HostAddr → ℕ → Answer
+onUnmap c h n =
+    let ss = c .segments in
+    let e = hostUp h n in
+    ask
+    ((fits (h .0 + n), Overflow) ∷ (not (any (hostInside h e) ss) || (length ss <? 64), NoSlot)
+    ∷ (not (any (frontCut h e) ss), FrontCut) ∷ (inOrder (unmapped h n ss), OutOfOrder) ∷ [])
+    (Accepted 0)
+
+unfoldable pub onUnmapGpa : Compartment → GuestAddr → ℕ → Answer
+onUnmapGpa c g n =
+    let ss = c .segments in
+    let e = guestUp g n in
+    let hit = keep (touched g e) ss in
+    let inner = any (spanInside g e) ss in
+    if (length ss =? 0) || (n =? 0) then Accepted 0
+    else
+    ask
+    ((fits (g .0 + n), Overflow) ∷ (all (λ s. spanWhole g e s || (s .repeat =? 1)) hit, Repeated)
+    ∷ (not inner || (length hit =? 1), OthersTouched) ∷ (not inner || (length ss <? 64), NoSlot)
+    ∷ (inOrder (unmappedGpa g n ss), OutOfOrder) ∷ [])
+    (Accepted 0)

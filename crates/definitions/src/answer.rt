@@ -1,0 +1,78 @@
+// What a call answers. The numbers that stand for the refusals are in specs/Questions.antt.
+ghost use mathlib.Core.Path.{_≡_};
+ghost use Rattle.definitions.specs.Questions.{numberOf, valueOf, refusalNumber};
+
+// One for each question, in the order of their numbers; the comment says what got a no.
+pub enum Refusal {
+    NoCompartment, // 1: the compartment is below 8
+    InvalidMemOps, // 2: the rights are below 32
+    InvalidRange, // 3: start is at most end
+    CountFull, // 4: every count to be raised is below 65,535
+    OutOfMemory, // 5: there are enough free records
+    InvalidRegion, // 6: a record begins at or below start
+    EndedBefore, // 7: the last such reaches above start
+    CountEmpty, // 8: every count to be lowered is above 0
+    EmptySegment, // 9: size and repeat are at least 1
+    Overflow, // 10: the sums and the product fit 64 bits
+    AlreadyAliased, // 11: the guest span overlaps no stored one
+    NoSlot, // 12: there is a free segment slot
+    FrontCut, // 13: no stored segment is cut at its front
+    OutOfOrder, // 14: the list left is in host order
+    Repeated, // 15: what is cut has repeat 1
+    OthersTouched, // 16: a range strictly inside one segment touches no other
+    Malformed, // 17: the script line has the form
+}
+
+// Accepted with a value, or refused.
+pub enum Answer {
+    Accepted(u64),
+    Refused(Refusal),
+}
+
+impl Refusal {
+    pub fn number(self) -> u64
+        ensures { λ r. ⌜ r ≡ refusalNumber self ⌝ }
+    {
+        match self {
+            Refusal::NoCompartment => 1,
+            Refusal::InvalidMemOps => 2,
+            Refusal::InvalidRange => 3,
+            Refusal::CountFull => 4,
+            Refusal::OutOfMemory => 5,
+            Refusal::InvalidRegion => 6,
+            Refusal::EndedBefore => 7,
+            Refusal::CountEmpty => 8,
+            Refusal::EmptySegment => 9,
+            Refusal::Overflow => 10,
+            Refusal::AlreadyAliased => 11,
+            Refusal::NoSlot => 12,
+            Refusal::FrontCut => 13,
+            Refusal::OutOfOrder => 14,
+            Refusal::Repeated => 15,
+            Refusal::OthersTouched => 16,
+            Refusal::Malformed => 17,
+        }
+    }
+}
+
+impl Answer {
+    // 0, or the number of the refusal.
+    pub fn number(self) -> u64
+        ensures { λ r. ⌜ r ≡ numberOf self ⌝ }
+    {
+        match self {
+            Answer::Accepted(_) => 0,
+            Answer::Refused(refusal) => refusal.number(),
+        }
+    }
+
+    // The value, 0 when refused.
+    pub fn value(self) -> u64
+        ensures { λ r. ⌜ r ≡ valueOf self ⌝ }
+    {
+        match self {
+            Answer::Accepted(value) => value,
+            Answer::Refused(_) => 0,
+        }
+    }
+}

@@ -1,0 +1,16 @@
+// The calls that name a compartment, which is the first number of each.
+use crate::addr::GuestAddr;
+use crate::addr::HostAddr;
+
+pub enum Call {
+    Add(u64, HostAddr, HostAddr, u64), // start, end, rights
+    Remove(u64, HostAddr, HostAddr, u64), // start, end, rights
+    Refcount(u64, HostAddr, HostAddr), // start, end
+    Overlaps(u64, GuestAddr, u64), // start, size
+    Map(u64, HostAddr, GuestAddr, u64, u64), // hpa, gpa, size, repeat
+    Unmap(u64, HostAddr, u64), // hpa, size
+    UnmapGpa(u64, GuestAddr, u64), // gpa, size
+    Permissions(u64, u64, u64), // a page from this permission on, into so many numbers
+    Remap(u64, u64, u64), // a page from this mapping on, into so many numbers
+    Mappings(u64), // how many mappings the stream has
+}
