@@ -204,7 +204,7 @@ pub record First (n x : ℕ) (s xs : List ℕ) : Type 0 where
   pub busy : has x s ≡ false
   pub behind : xs ≡ usedFrom (x + 1) (n - (x + 1)) s
 
-used-first : (n m k x : ℕ) (s xs : List ℕ) → m ≡ n - k → usedFrom k m s ≡ x ∷ xs → First n x s xs
+pub used-first : (n m k x : ℕ) (s xs : List ℕ) → m ≡ n - k → usedFrom k m s ≡ x ∷ xs → First n x s xs
 used-first n zero k x s xs q e = let z : _≡_ {A = ℕ} 0 1 = cc in absurd (omega arith)
 used-first n (suc m) k x s xs q e = go (has k s) refl e (used-first n m (suc k) x s xs (omega arith))
   where

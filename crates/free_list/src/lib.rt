@@ -56,7 +56,7 @@ impl FreeList {
         FreeList { head: 0, count: 0 }
     }
 
-    // Takes the slot that was freed last.
+    // Takes the slot that was freed last, or else the lowest that was never taken.
     pub fn allocate(self, links: &mut [usize]) -> Allocated
         requires { ⌜ IsGrown (now links) self ⌝ }
         ensures { λ r. ⌜ ((n : ℕ) (calls : List FreeListCall) → Grown n (now (links .entry)) self calls → Allocates n calls (now (links .entry)) (now (links .exit)) self r) ⌝ }

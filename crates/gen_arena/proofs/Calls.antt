@@ -2,10 +2,11 @@
 use Prim.Native.Nat.{ℕ, _+_, _%_, _^_, _<_}
 use mathlib.Core.Path.{_≡_, refl, sym, ap, _∙_}
 use mathlib.Core.List.{List, [], _∷_, _++_, append-nil, map, map-append}
-use mathlib.Core.Bool.{true, false}
+use mathlib.Core.Bool.{Bool, true, false}
 use native.Mathlib.Omega.{arith}
 use lib.ListN.{length, getD, set, replicate, drop, length-set, length-replicate, drop-of-length-le}
-use borrow.Author.Tests.{eq-eqb, ne-eqb}
+use lib.Dec.{eqb}
+use borrow.Author.Tests.{eq-eqb, ne-eqb, eqb-true}
 use Rattle.free_list.specs.Stack.{after as list·after, freeable}
 use Rattle.free_list.specs.Grown.{Grown, Allocates, Frees, firstOf, nextFrom}
 use Rattle.free_list.specs.declared.FreeList.{FreeList}
@@ -19,11 +20,12 @@ use Rattle.free_list.specs.declared.Freed.{Freed as list·Freed}
 use Rattle.free_list.proofs.Calls.{fresh-list}
 use Rattle.free_list.proofs.Laws.{first-fits, freed-fits, next-fits}
 use Rattle.gen_arena.specs.Arena.{ArenaCall, allocate, free, listCall, Arena, stepGenerations, after, madeOf, liveOf, nextLive}
-use Rattle.gen_arena.specs.Grown.{GrownArena, IsArena, Creates, AllocatesHandle, FreesHandle}
+use Rattle.gen_arena.specs.Grown.{GrownArena, IsArena, fresh, createdIf, Creates, AllocatesHandle, FreesHandle}
 use Rattle.gen_arena.specs.declared.GenArena.{GenArena}
 use Rattle.gen_arena.specs.declared.Handle.{Handle}
 use Rattle.gen_arena.specs.declared.Allocated.{Allocated}
 use Rattle.gen_arena.specs.declared.Freed.{Freed}
+use Rattle.gen_arena.specs.declared.Created.{Created}
 use Rattle.gen_arena.specs.declared.Created.the-variants.{Arena as MadeArena, Uneven}
 use Rattle.gen_arena.specs.declared.ArenaIterator.{ArenaIterator}
 use Rattle.gen_arena.proofs.Laws.{after-snoc, slots-after}
@@ -121,6 +123,13 @@ module _ (n : ℕ) (calls : List ArenaCall) (links gens : List ℕ) (arena : Gen
     next-live s q = cc (ap (λ (t : List ℕ). nextFrom n t (c .iterator)) slots)
 
 -- ---- for callers: what comes back is an arena too
+
+pub created-arena : {links links′ gens gens′ : List ℕ} {r : Created} (a : GenArena) → Creates links links′ gens gens′ r → r ≡ MadeArena a → IsArena links′ gens′ a
+created-arena {links} {links′} {gens} {gens′} {r} a c e = go (eqb (length links) (length gens)) refl (sym e ∙ c .answer)
+  where
+    go : (b : Bool) → eqb (length links) (length gens) ≡ b → MadeArena a ≡ createdIf b → IsArena links′ gens′ a
+    go true d q = let f : fresh ≡ a = cc in record { n = length links; calls = []; grown = rw f at (c .grown (eqb-true _ _ d)) }
+    go false d q = absurd (let y : _≡_ {A = ℕ} 0 1 = cc in omega arith)
 
 pub allocated-arena : {links links′ gens : List ℕ} {arena : GenArena} (r : Allocated) (p : IsArena links gens arena)
     → ((n : ℕ) (calls : List ArenaCall) → GrownArena n links gens arena calls → AllocatesHandle n calls links links′ gens arena r) → IsArena links′ gens (r .arena)

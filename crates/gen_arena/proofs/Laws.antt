@@ -1,12 +1,18 @@
 -- Laws of the arena: its slots are the free list's, and its cursor comes to each slot in use.
-use Prim.Native.Nat.{ℕ}
+use Prim.Native.Nat.{ℕ, _+_, _%_, _^_, _<_}
 use mathlib.Core.Path.{_≡_, refl, ap}
+use mathlib.Core.Bool.{and-false}
+use native.Mathlib.Omega.{arith}
+use lib.ListN.{length, getD}
+use lib.Seq.{getD-set-same}
+use borrow.Author.Tests.{le-ltb, ne-eqb}
 use mathlib.Core.List.{List, [], _∷_, _++_, map}
 use Rattle.free_list.specs.Stack.{after as list·after, run as list·run}
 use Rattle.free_list.specs.declared.FreeListIterator.{FreeListIterator}
 use Rattle.free_list.proofs.Laws.{Visits, end as list·end, more as list·more, iterates as list·iterates}
-use Rattle.gen_arena.specs.Arena.{ArenaCall, listCall, Arena, step, run, after, handleOf, firstLive, liveOf, nextLive, live}
+use Rattle.gen_arena.specs.Arena.{ArenaCall, listCall, Arena, step, run, after, handleOf, raised, found, invalid, firstLive, liveOf, nextLive, live}
 use Rattle.gen_arena.specs.declared.Handle.{Handle}
+use Rattle.gen_arena.specs.declared.Found.the-variants.{Nothing}
 use Rattle.gen_arena.specs.declared.ArenaIterator.{ArenaIterator}
 use Rattle.gen_arena.specs.declared.Live.the-variants.{At, End}
 
@@ -38,3 +44,15 @@ visits n a (list·more e v) = more (ap (liveOf (a .generations)) e) (visits n a 
 -- from the first cursor it comes to each slot in use once, in rising order, at its generation
 pub iterates : (n : ℕ) (a : Arena) → VisitsLive n a firstLive (live n a)
 iterates n a = visits n a (list·iterates n (a .slots))
+
+-- ---- what handles find
+
+-- a handle finds nothing once its slot was freed: the slot is at another generation
+pub freed-finds-nothing : (gens : List ℕ) (i : ℕ) → i < length gens → getD gens i 0 < 2 ^ 64 → found (raised gens i) (handleOf gens i) ≡ Nothing
+freed-finds-nothing gens i l f =
+    let g : getD (raised gens i) i 0 ≡ (getD gens i 0 + 1) % 2 ^ 64 = getD-set-same gens i _ 0 l in
+    rw (g, ne-eqb ((getD gens i 0 + 1) % 2 ^ 64) (getD gens i 0) (λ e. omega arith), and-false)
+
+-- the invalid handle finds nothing, since no slice has so many elements
+pub invalid-finds-nothing : (gens : List ℕ) → length gens < 2 ^ 64 → found gens invalid ≡ Nothing
+invalid-finds-nothing gens l = rw (le-ltb 18446744073709551615 (length gens) (omega arith))

@@ -114,7 +114,7 @@ impl GenArena {
         Created::Arena(GenArena { free_list })
     }
 
-    // Takes the slot that was freed last, at its generation.
+    // Takes the slot that the free list hands out, at its generation.
     pub fn allocate(self, links: &mut [usize], gens: &[u64]) -> Allocated
         requires { ⌜ IsArena (now links) (now gens) self ⌝ }
         ensures { λ r. ⌜ ((n : ℕ) (calls : List ArenaCall) → GrownArena n (now (links .entry)) (now (gens .entry)) self calls → AllocatesHandle n calls (now (links .entry)) (now (links .exit)) (now (gens .entry)) self r) ⌝ }

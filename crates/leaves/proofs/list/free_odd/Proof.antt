@@ -1,0 +1,64 @@
+use Prim.Native.Nat.{_-_}
+use mathlib.Core.Path.{_≡_}
+use lib.ListN.{length}
+use borrow.Author.Needs.{needs}
+use Rattle.free_list.specs.Grown.{IsGrown}
+use Rattle.leaves.proofs.list.free_odd.Statement.{statement}
+use Rattle.leaves.proofs.list.free_odd.Tie as tie
+
+abbrev Inv-loop : tie.InvT-loop
+Inv-loop links₀ n list₀ tally₀ i₀ links list tally i = (length links ≡ n) × IsGrown links list
+
+abbrev μ-loop : tie.MeasureT-loop
+μ-loop links₀ n list₀ tally₀ i₀ links list tally i = n - i
+
+slice-aggregate-text : tie.Need-slice-aggregate-text Inv-loop μ-loop
+slice-aggregate-text c = search needs
+
+text-requires : tie.Need-text-requires Inv-loop μ-loop
+text-requires c κs = search needs
+
+new-requires : tie.Need-new-requires Inv-loop μ-loop
+new-requires c κs = search needs
+
+loop-holds : tie.Need-loop-holds Inv-loop μ-loop
+loop-holds c = search needs
+
+free-requires : tie.Need-free-requires Inv-loop μ-loop
+free-requires c κs = search needs
+
+add-i : tie.Need-add-i Inv-loop μ-loop
+add-i c = search needs
+
+loop-less : tie.Need-loop-less Inv-loop μ-loop
+loop-less c = search needs
+
+loop-again : tie.Need-loop-again Inv-loop μ-loop
+loop-again c = search needs
+
+end-requires : tie.Need-end-requires Inv-loop μ-loop
+end-requires c κs = search needs
+
+same-length : tie.Need-same-length Inv-loop μ-loop
+same-length c = search needs
+
+returns : tie.Need-returns Inv-loop μ-loop
+returns c = search needs
+
+pub free-odd-spec : {M : Type 1} → statement M
+free-odd-spec =
+    tie.close
+    (tie.spec
+    Inv-loop
+    μ-loop
+    slice-aggregate-text
+    text-requires
+    new-requires
+    loop-holds
+    free-requires
+    add-i
+    loop-less
+    loop-again
+    end-requires
+    same-length
+    returns)
