@@ -1,0 +1,4 @@
+pub mod Steps
+pub mod Room
+pub mod Shift
+pub mod Again

@@ -1,0 +1,141 @@
+// Numbers in fixed columns, as the script and its output have them: read from bytes, and written over bytes.
+ghost use mathlib.Core.Path.{_≡_};
+ghost use Prim.Native.Nat.{_+_, _-_, _<_, _≤_};
+ghost use lib.ListN.{length, drop};
+ghost use lib.Seq.{sets};
+ghost use Rattle.definitions.specs.Tests.{_≤?_};
+ghost use Rattle.definitions.specs.Script.{columnOf, digitsOf, digitOrSpace, spaced, numberIn};
+ghost use Rattle.columns.specs.Columns.{columnFrom, Wrote};
+
+// What a column says.
+pub enum Column {
+    Number(u64),
+    Malformed,
+}
+
+// Where writing goes on; or there was no room, and nothing is written.
+pub enum Put {
+    At(usize),
+    NoRoom,
+}
+
+fn wide(x: u8) -> u64
+    ensures { λ r. ⌜ (r ≡ x) × (r < 256) ⌝ }
+{
+    x as u64
+}
+
+// The digits from a place on, after a number that was read before them.
+fn digits(bytes: &[u8], from: usize, first: u64) -> Column
+    requires { ⌜ from ≤ length (now bytes) ⌝ }
+    ensures { λ r. ⌜ r ≡ columnFrom (digitsOf first (drop from (now (bytes .entry)))) ⌝ }
+{
+    let mut n = first;
+    let mut i = from;
+    while i < bytes.len() {
+        let b = wide(bytes[i]);
+        if b < 48 {
+            return Column::Malformed;
+        }
+        if b > 57 {
+            return Column::Malformed;
+        }
+        // 10 n has to be below 2^64, and then what is added to it
+        if n > 1844674407370955161 {
+            return Column::Malformed;
+        }
+        let tens = n * 10;
+        let d = b - 48;
+        if d > 18446744073709551615 - tens {
+            return Column::Malformed;
+        }
+        n = tens + d;
+        i += 1;
+    }
+    Column::Number(n)
+}
+
+// A number at the right of all these columns: spaces, then digits that begin with another than 0, or 0 alone.
+pub fn read(bytes: &[u8]) -> Column
+    ensures { λ r. ⌜ r ≡ columnFrom (columnOf (now (bytes .entry))) ⌝ }
+{
+    let mut i = 0;
+    while i < bytes.len() {
+        let b = wide(bytes[i]);
+        if b != 32 {
+            if b == 48 {
+                if i + 1 == bytes.len() {
+                    return Column::Number(0);
+                }
+                return Column::Malformed;
+            }
+            if b < 48 {
+                return Column::Malformed;
+            }
+            if b > 57 {
+                return Column::Malformed;
+            }
+            return digits(bytes, i + 1, b - 48);
+        }
+        i += 1;
+    }
+    Column::Malformed
+}
+
+// Do so many bytes fit from a place on? Neither sum nor difference wraps.
+pub fn has_room(len: usize, at: usize, size: usize) -> bool
+    ensures { λ r. ⌜ r ≡ (at + size ≤? len) ⌝ }
+{
+    if len < at {
+        return false;
+    }
+    if len - at < size {
+        return false;
+    }
+    true
+}
+
+// The last digit of m, or a space where nothing is left of it.
+fn cell(m: u64) -> u8
+    ensures { λ r. ⌜ r ≡ digitOrSpace m ⌝ }
+{
+    if m == 0 { 32 } else { 48 + (m % 10) as u8 }
+}
+
+// The columns before a number's last, from the right to the left.
+fn fill(out: &mut [u8], at: usize, columns: usize, n: u64)
+    requires { ⌜ at + columns ≤ length (now out) ⌝ }
+    ensures { λ _. ⌜ now (out .exit) ≡ sets (now (out .entry)) at (spaced columns n) ⌝ }
+{
+    let mut k = columns;
+    let mut m = n;
+    while k > 0 {
+        k -= 1;
+        out[at + k] = cell(m);
+        m = m / 10;
+    }
+}
+
+// How many columns stand before the last.
+fn before_last(width: usize) -> usize
+    ensures { λ r. ⌜ r ≡ width - 1 ⌝ }
+{
+    if width == 0 {
+        return 0;
+    }
+    width - 1
+}
+
+// A number at the right of so many columns, with spaces before its digits; digits that the columns do not hold are
+// left out on the left. A width of 0 is taken as 1, as `numberIn` has it: every number has a last digit.
+pub fn write(out: &mut [u8], at: usize, width: usize, n: u64) -> Put
+    ensures { λ r. ⌜ Wrote at (numberIn width n) (now (out .entry)) r (now (out .exit)) ⌝ }
+{
+    let before = before_last(width);
+    if !has_room(out.len(), at, before + 1) {
+        return Put::NoRoom;
+    }
+    fill(out, at, before, n / 10);
+    out[at + before] = 48 + (n % 10) as u8;
+    Put::At(at + (before + 1))
+}
