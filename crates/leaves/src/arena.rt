@@ -15,15 +15,15 @@ use gen_arena::NewHandle;
 ghost use Rattle.gen_arena.specs.Grown.{IsArena};
 
 // An arena with the handles that have gone by.
-pub struct Gone {
-    pub arena: GenArena,
-    pub tally: Tally,
+pub(crate) struct Gone {
+    pub(crate) arena: GenArena,
+    pub(crate) tally: Tally,
 }
 
 // A cursor with the handles that it came to.
-pub struct Visited {
-    pub cursor: ArenaIterator,
-    pub tally: Tally,
+pub(crate) struct Visited {
+    pub(crate) cursor: ArenaIterator,
+    pub(crate) tally: Tally,
 }
 
 // A handle of slot 0.
@@ -348,7 +348,7 @@ fn lines(arena: GenArena, links: &mut [usize], gens: &mut [u64])
     half_lines(arena, links, gens);
 }
 
-pub fn run(links: &mut [usize], gens: &mut [u64]) {
+pub(crate) fn run(links: &mut [usize], gens: &mut [u64]) {
     invalid_line();
     uneven_line(links, gens);
     match GenArena::new(links, gens) {

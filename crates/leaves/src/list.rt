@@ -11,15 +11,15 @@ use free_list::Slot;
 ghost use Rattle.free_list.specs.Grown.{IsGrown};
 
 // A list with the slots that have gone by.
-pub struct Gone {
-    pub list: FreeList,
-    pub tally: Tally,
+pub(crate) struct Gone {
+    pub(crate) list: FreeList,
+    pub(crate) tally: Tally,
 }
 
 // A cursor with the slots that it came to.
-pub struct Visited {
-    pub cursor: FreeListIterator,
-    pub tally: Tally,
+pub(crate) struct Visited {
+    pub(crate) cursor: FreeListIterator,
+    pub(crate) tally: Tally,
 }
 
 fn allocate(list: FreeList, links: &mut [usize], tally: Tally) -> Gone
@@ -237,7 +237,7 @@ fn half_lines(list: FreeList, links: &mut [usize])
     state_lines(list, links);
 }
 
-pub fn run(links: &mut [usize]) {
+pub(crate) fn run(links: &mut [usize]) {
     let list = fresh_lines(links);
     let list = past_lines(list, links);
     let list = again_lines(list, links);

@@ -2,15 +2,15 @@
 use gen_arena::Handle;
 use libc::STDOUT_FILENO;
 
-pub fn text(bytes: &[u8]) {
+pub(crate) fn text(bytes: &[u8]) {
     io::write_all(STDOUT_FILENO, bytes);
 }
 
-pub fn number(n: usize) {
+pub(crate) fn number(n: usize) {
     io::print_decimal(STDOUT_FILENO, n as u64);
 }
 
-pub fn yes_or_no(answer: bool) {
+pub(crate) fn yes_or_no(answer: bool) {
     if answer {
         text(b" yes");
     } else {
@@ -18,7 +18,7 @@ pub fn yes_or_no(answer: bool) {
     }
 }
 
-pub fn freed_or_refused(done: bool) {
+pub(crate) fn freed_or_refused(done: bool) {
     if done {
         text(b" freed\n");
     } else {
@@ -27,7 +27,7 @@ pub fn freed_or_refused(done: bool) {
 }
 
 // A handle, as slot@generation.
-pub fn handle(h: Handle) {
+pub(crate) fn handle(h: Handle) {
     number(h.idx);
     text(b"@");
     io::print_decimal(STDOUT_FILENO, h.generation);
@@ -35,14 +35,14 @@ pub fn handle(h: Handle) {
 
 // Slots in the order in which they come. The first four and the last four of the total that is expected are written,
 // and all go into the check.
-pub struct Tally {
-    pub total: usize,
-    pub seen: usize,
-    pub check: u64,
+pub(crate) struct Tally {
+    pub(crate) total: usize,
+    pub(crate) seen: usize,
+    pub(crate) check: u64,
 }
 
 impl Tally {
-    pub fn new(total: usize) -> Tally {
+    pub(crate) fn new(total: usize) -> Tally {
         Tally {
             total,
             seen: 0,
@@ -80,7 +80,7 @@ impl Tally {
         }
     }
 
-    pub fn slot(self, slot: usize) -> Tally {
+    pub(crate) fn slot(self, slot: usize) -> Tally {
         if self.is_shown() {
             text(b" ");
             number(slot);
@@ -88,7 +88,7 @@ impl Tally {
         self.counted().mixed(slot as u64)
     }
 
-    pub fn handle(self, h: Handle) -> Tally {
+    pub(crate) fn handle(self, h: Handle) -> Tally {
         if self.is_shown() {
             text(b" ");
             handle(h);
@@ -97,7 +97,7 @@ impl Tally {
     }
 
     // The end of the line: how many there were, and the check.
-    pub fn end(self) {
+    pub(crate) fn end(self) {
         text(b"; ");
         number(self.seen);
         text(b" slots, check ");
