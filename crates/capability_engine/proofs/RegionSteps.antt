@@ -1,0 +1,55 @@
+-- What the functions that ask one region show.
+use Prim.Native.Nat.{ℕ, _-_, _≤_, _<_}
+use mathlib.Core.Path.{_≡_}
+use mathlib.Core.Bool.{Bool, true, false, _&&_, _||_}
+use native.Mathlib.Omega.{arith}
+use borrow.Author.Tests.{le-leb, lt-leb}
+use Rattle.definitions.specs.Tests.{_<?_, _≤?_, _=?_, if_then_else_, bit}
+use Rattle.definitions.specs.Rights.{asCounters}
+use Rattle.definitions.specs.declared.addr.HostAddr.{HostAddr}
+use Rattle.definitions.specs.declared.region.Counters.{Counters}
+use Rattle.definitions.specs.declared.region.Region.{Region}
+use Rattle.capability_engine.specs.RegionAsks.{everyOf, gapFrom, gapHere}
+
+module _ (e s : HostAddr) (r : Region) where
+  pub from-skip : r .end .0 ≤ s .0 → s ≡ gapFrom e s r
+  unfolding gapFrom
+  from-skip l = simp (le-leb (r .end .0) (s .0) l)
+
+  pub from-stop : s .0 < r .end .0 → e .0 ≤ r .start .0 → e ≡ gapFrom e s r
+  unfolding gapFrom
+  from-stop l m = simp (lt-leb (r .end .0) (s .0) l, le-leb (e .0) (r .start .0) m)
+
+  pub from-on : s .0 < r .end .0 → r .start .0 < e .0 → r .end ≡ gapFrom e s r
+  unfolding gapFrom
+  from-on l m = simp (lt-leb (r .end .0) (s .0) l, lt-leb (e .0) (r .start .0) m)
+
+  pub here-skip : r .end .0 ≤ s .0 → false ≡ gapHere e s r
+  unfolding gapHere
+  here-skip l = simp (le-leb (r .end .0) (s .0) l)
+
+  pub here-stop : s .0 < r .end .0 → e .0 ≤ r .start .0 → (s .0 <? e .0) ≡ gapHere e s r
+  unfolding gapHere
+  here-stop l m = simp (lt-leb (r .end .0) (s .0) l, le-leb (e .0) (r .start .0) m)
+
+  pub here-on : s .0 < r .end .0 → r .start .0 < e .0 → (s .0 <? r .start .0) ≡ gapHere e s r
+  unfolding gapHere
+  here-on l m = simp (lt-leb (r .end .0) (s .0) l, lt-leb (e .0) (r .start .0) m)
+
+pub less-one : (n : ℕ) (b : Bool) → b ≡ true → n - 1 ≡ n - bit b
+less-one n b d = rw d
+
+pub less-none : (n : ℕ) (b : Bool) → b ≡ false → n ≡ n - bit b
+less-none n b d = rw d (omega arith)
+
+pub last-is : (a last : HostAddr) (r : Region) → r .start .0 ≤ a .0 → r .end ≡ (if r .start .0 ≤? a .0 then r .end else last)
+last-is a last r l = rw (le-leb (r .start .0) (a .0) l)
+
+pub last-not : (a last : HostAddr) (r : Region) → a .0 < r .start .0 → last ≡ (if r .start .0 ≤? a .0 then r .end else last)
+last-not a last r l = rw (lt-leb (r .start .0) (a .0) l)
+
+pub every-is : (rights : ℕ) (c : Counters) (p q s t a b d e f g h : Bool) → c ≡ asCounters (record { 0 = rights })
+    → a ≡ ((c .read =? 0) || p) → b ≡ ((c .write =? 0) || q) → d ≡ ((c .exec =? 0) || s) → e ≡ ((c .supervisor =? 0) || t)
+    → f ≡ (a && b) → g ≡ (f && d) → h ≡ (g && e) → h ≡ everyOf rights p q s t
+unfolding everyOf asCounters
+every-is rights c p q s t a b d e f g h ec ea eb ed ee ef eg eh = rw (eh, eg, ef, ea, eb, ed, ee, ec)

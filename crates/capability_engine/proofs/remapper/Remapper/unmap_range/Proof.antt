@@ -1,0 +1,65 @@
+use mathlib.Core.Path.{sym, _∙_}
+use native.Mathlib.Omega.{arith}
+use Rattle.definitions.specs.Tests.{hostUp}
+use Rattle.capability_engine.proofs.RemapCalls.{holding, unmap-large, unmap-first, unmap-trimmable, unmap-order, unmap-done}
+use borrow.Author.Needs.{needs}
+use Rattle.capability_engine.proofs.remapper.Remapper.unmap_range.Statement.{statement}
+use Rattle.capability_engine.proofs.remapper.Remapper.unmap_range.Tie as tie
+
+sub-if1 : tie.Need-sub-if1
+sub-if1 c = search needs
+
+returns : tie.Need-returns
+returns c = λ k h. unmap-large _ k h _ _ (omega arith)
+
+add-t10 : tie.Need-add-t10
+add-t10 c = search needs
+
+asked-requires : tie.Need-asked-requires
+asked-requires c κs = (c .before .pre, omega arith)
+
+can-unmap-requires : tie.Need-can-unmap-requires
+can-unmap-requires c κs = search needs
+
+enum-told : tie.Need-enum-told
+enum-told c = search needs
+
+enum-told-2 : tie.Need-enum-told-2
+enum-told-2 c = search needs
+
+returns-2 : tie.Need-returns-2
+unfolding hostUp
+returns-2 c = λ k h. unmap-first _ k h _ _ (omega arith) _ (c .before .before .before .before .asked .ensures (k .segments) h) _ (c .before .before .can-unmap .ensures) _ (c .enum-told2 .given .1)
+
+trim-requires : tie.Need-trim-requires
+unfolding hostUp
+trim-requires c κs = (omega arith, (c .before .before .before .before .before .before .pre .0, c .before .before .before .before .before .before .pre .1, unmap-trimmable _ (holding (c .before .before .before .before .before .before .pre .0)) (c .before .before .before .before .before .before .pre .1) _ _ (omega arith) _ (c .before .before .before .before .asked .ensures (c .before .before .before .before .before .before .pre .0) (c .before .before .before .before .before .before .pre .1)) _ (c .before .before .can-unmap .ensures) _ (c .enum-told .given .1)))
+
+sorted-requires : tie.Need-sorted-requires
+unfolding hostUp
+sorted-requires c κs = (_, c .trim .ensures (c .before .before .before .before .before .before .before .pre .0) (c .before .before .before .before .before .before .before .pre .1) (unmap-trimmable _ (holding (c .before .before .before .before .before .before .before .pre .0)) (c .before .before .before .before .before .before .before .pre .1) _ _ (omega arith) _ (c .before .before .before .before .before .asked .ensures (c .before .before .before .before .before .before .before .pre .0) (c .before .before .before .before .before .before .before .pre .1)) _ (c .before .before .before .can-unmap .ensures) _ (c .before .enum-told .given .1)))
+
+returns-3 : tie.Need-returns-3
+unfolding hostUp
+returns-3 c = λ k h. let m = c .before .before .trim .ensures (k .segments) h (unmap-trimmable _ k h _ _ (omega arith) _ (c .before .before .before .before .before .before .before .asked .ensures (k .segments) h) _ (c .before .before .before .before .before .can-unmap .ensures) _ (c .before .before .before .enum-told .given .1)) in unmap-done _ k h _ _ (omega arith) _ (c .before .before .before .before .before .before .before .asked .ensures (k .segments) h) _ (c .before .before .before .before .before .can-unmap .ensures) _ (c .before .before .before .enum-told .given .1) _ m (sym (c .if2 .taken) ∙ c .before .sorted .ensures _ m)
+
+returns-4 : tie.Need-returns-4
+unfolding hostUp
+returns-4 c = λ k h. let m = c .before .before .trim .ensures (k .segments) h (unmap-trimmable _ k h _ _ (omega arith) _ (c .before .before .before .before .before .before .before .asked .ensures (k .segments) h) _ (c .before .before .before .before .before .can-unmap .ensures) _ (c .before .before .before .enum-told .given .1)) in unmap-order _ k h _ _ (omega arith) _ (c .before .before .before .before .before .before .before .asked .ensures (k .segments) h) _ (c .before .before .before .before .before .can-unmap .ensures) _ (c .before .before .before .enum-told .given .1) _ m (sym (c .if2 .left) ∙ c .before .sorted .ensures _ m)
+
+pub unmap-range-spec : {M : Type 1} → statement M
+unmap-range-spec =
+    tie.close
+    (tie.spec
+    sub-if1
+    returns
+    add-t10
+    asked-requires
+    can-unmap-requires
+    enum-told
+    enum-told-2
+    returns-2
+    trim-requires
+    sorted-requires
+    returns-3
+    returns-4)

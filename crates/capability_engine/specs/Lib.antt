@@ -1,0 +1,14 @@
+pub mod SegmentWords
+pub mod PoolWords
+pub mod PoolChain
+pub mod PoolOwn
+pub mod RegionPasses
+pub mod RegionAsks
+pub mod CompartmentGrown
+pub mod StreamFlow
+pub mod StreamCursor
+pub mod StreamPage
+pub mod RemapHeld
+pub mod RemapAsking
+pub mod RemapAnswers
+pub mod RemapListing

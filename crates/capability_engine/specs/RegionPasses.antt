@@ -1,0 +1,44 @@
+-- What the passes of a remove make of a list of regions, and the tests of a cut.
+use Prim.Native.Nat.{ℕ, _≤_, _<_}
+use mathlib.Core.List.{List, [], _∷_}
+use Rattle.definitions.specs.Tests.{if_then_else_, keep}
+use Rattle.definitions.specs.Values.{held, lower}
+use Rattle.definitions.specs.Regions.{region, within, splits, cut}
+use Rattle.definitions.specs.declared.addr.HostAddr.{HostAddr}
+use Rattle.definitions.specs.declared.region.Values.{Values}
+use Rattle.definitions.specs.declared.region.Region.{Region}
+use Rattle.definitions.proofs.Lists.{change, Ordered, AllHeld}
+use Rattle.capability_engine.specs.PoolOwn.{Heap, Room, recordsOf}
+
+-- the regions that lie in the range are lowered, and go if nobody holds them any more
+unfoldable pub lowered : ℕ → HostAddr → HostAddr → List Region → List Region
+lowered rights a e rs = keep (λ q. held (q .values)) (change (lower rights) a e rs)
+
+-- where the region begins that has e strictly inside; e if none has
+unfoldable pub startOf : HostAddr → List Region → HostAddr
+startOf e [] = e
+startOf e (r ∷ rs) = if splits e r then r .start else startOf e rs
+
+-- one region that lies in the range is changed
+unfoldable pub changedOne : (Values → Values) → HostAddr → HostAddr → Region → Region
+changedOne f a e r = if within a e r then region (r .start) (r .end) (f (r .values)) else r
+
+-- no count is above 65,536
+pub record Small (v : Values) : Type 0 where
+  pub refcount : v .refcount ≤ 65536
+  pub read : v .counters .read ≤ 65536
+  pub write : v .counters .write ≤ 65536
+  pub exec : v .counters .exec ≤ 65536
+  pub supervisor : v .counters .supervisor ≤ 65536
+
+abbrev pub AllSmall : List Region → Type 0
+AllSmall [] = Unit {0}
+AllSmall (r ∷ rs) = Small (r .values) × AllSmall rs
+
+-- what a remove asks before it changes anything
+pub record CanApplyRemove (nx ws : List ℕ) (fl : Heap) (a e : HostAddr) (rights : ℕ) : Type 0 where
+  pub order : a .0 < e .0
+  pub ordered : Ordered 0 (recordsOf nx ws)
+  pub full : AllHeld (recordsOf nx ws)
+  pub first : Room nx fl (cut a (recordsOf nx ws))
+  pub second : Room nx fl (cut e (lowered rights a e (cut a (recordsOf nx ws))))

@@ -1,0 +1,784 @@
+// remapper.rs: the segments of one compartment. 64 slots, the links between those in use, the free list of the others,
+// and the head. A link, a head or a slot of 64 means none. Everything goes in by value and comes back by value.
+use definitions::Answer;
+use definitions::GuestAddr;
+use definitions::HostAddr;
+use definitions::Refusal;
+use definitions::Segment;
+use free_list::Allocated;
+use free_list::FreeList;
+use free_list::Freed;
+ghost use mathlib.Core.Path.{_≡_};
+ghost use mathlib.Core.Bool.{true, _&&_, _||_};
+ghost use mathlib.Core.List.{List, [], _∷_, _++_};
+ghost use Prim.Native.Nat.{ℕ, _+_, _*_, _<_, _≤_};
+ghost use lib.ListN.{length};
+ghost use lib.Seq.{sets};
+ghost use Rattle.free_list.specs.Stack.{FreeListCall};
+ghost use Rattle.free_list.specs.Grown.{Grown, IsGrown, Allocates, Frees};
+ghost use Rattle.definitions.proofs.SegmentLaws.{Good};
+ghost use Rattle.definitions.specs.Segments.{segment, hits, isIdentity, place, inOrder, hostEnd, spanEnd, front as frontOf, rest as restOf, hostInside, touched, spanWhole, spanInside};
+ghost use Rattle.definitions.specs.Questions.{frontCut};
+ghost use Rattle.capability_engine.specs.RemapHeld.{joinLinks, joinHead, Zip, Holds, IsHeld};
+ghost use Rattle.capability_engine.specs.RemapAsking.{leftHost, leftGuest, leftOf, okGuest, okFor, askHost, askGuest, askStep, askAll, nothingAsked, walked, inRange, repeats, halfOf, Trimmable};
+ghost use Rattle.capability_engine.specs.RemapAnswers.{canMap, canUnmap, canStart, canUnmapGpa, Overlaps, Maps, Unmaps, UnmapsGpa};
+ghost use Rattle.capability_engine.specs.RemapListing.{wordsOf, Copied, IsAhead, Starts, Steps};
+
+pub(crate) struct Remapper {
+    pub(crate) segments: [Segment; 64],
+    pub(crate) links: [usize; 64],
+    pub(crate) free: [usize; 64],
+    pub(crate) list: FreeList,
+    pub(crate) head: usize,
+}
+
+// What a call answers, and the remapper after it.
+pub(crate) struct Changed {
+    pub(crate) answer: Answer,
+    pub(crate) remapper: Remapper,
+}
+
+// A cursor over the segments: the slot of the next one, 64 at the end.
+pub(crate) struct RemapperSegmentIterator {
+    pub(crate) next_segment: usize,
+}
+
+// The segment that a cursor came to, with the cursor behind it.
+pub(crate) enum NextSegment {
+    At(Segment, RemapperSegmentIterator),
+    End,
+}
+
+// A range to unmap, [start, end), in host or in guest addresses.
+pub(crate) enum Span {
+    Host(HostAddr, HostAddr),
+    Guest(GuestAddr, GuestAddr),
+}
+
+// What is left of a segment in its place.
+pub(crate) enum Left {
+    Gone,
+    Kept(Segment),
+    Two(Segment, Segment),
+}
+
+// What the questions of an unmap want to know of the list.
+pub(crate) struct Asked {
+    // one is touched, and more than one
+    pub(crate) one: bool,
+    pub(crate) more: bool,
+    // one becomes two, and its second half, of a guest range
+    pub(crate) split: bool,
+    pub(crate) half: Segment,
+    // what question 13 or 15 refuses
+    pub(crate) bad: bool,
+}
+
+const MOST: u64 = 18446744073709551615;
+
+// The link of slot prev, or the head where prev is none, becomes to.
+fn join(links: &mut [usize; 64], head: usize, prev: usize, to: usize) -> usize
+    ensures { λ r. ⌜ (now (links .exit) ≡ joinLinks (now (links .entry)) prev to) × (r ≡ joinHead head prev to) ⌝ }
+{
+    if prev < 64 {
+        links[prev] = to;
+        head
+    } else {
+        to
+    }
+}
+
+// The free list's two calls on the whole array.
+fn take_slot(free: &mut [usize; 64], list: FreeList) -> Allocated
+    requires { ⌜ IsGrown (now free) list ⌝ }
+    ensures { λ r. ⌜ ((n : ℕ) (calls : List FreeListCall) → Grown n (now (free .entry)) list calls → Allocates n calls (now (free .entry)) (now (free .exit)) list r) ⌝ }
+{
+    list.allocate(free)
+}
+
+fn free_slot(free: &mut [usize; 64], list: FreeList, at: usize) -> Freed
+    requires { ⌜ IsGrown (now free) list ⌝ }
+    ensures { λ r. ⌜ ((n : ℕ) (calls : List FreeListCall) → Grown n (now (free .entry)) list calls → Frees n calls at (now (free .entry)) (now (free .exit)) list r) ⌝ }
+{
+    list.free(free, at)
+}
+
+fn or(a: bool, b: bool) -> bool
+    ensures { λ r. ⌜ r ≡ a || b ⌝ }
+{
+    if a { true } else { b }
+}
+
+fn and(a: bool, b: bool) -> bool
+    ensures { λ r. ⌜ r ≡ a && b ⌝ }
+{
+    if a { b } else { false }
+}
+
+// ---- one segment
+
+fn host_end(s: Segment) -> u64
+    requires { ⌜ Good s ⌝ }
+    ensures { λ r. ⌜ r ≡ hostEnd s .0 ⌝ }
+{
+    let h = s.hpa.0;
+    h + s.size
+}
+
+fn span_end(s: Segment) -> u64
+    requires { ⌜ Good s ⌝ }
+    ensures { λ r. ⌜ r ≡ spanEnd s .0 ⌝ }
+{
+    let g = s.gpa.0;
+    let n = s.size;
+    let t = s.repeat;
+    g + n * t
+}
+
+fn new_segment(hpa: HostAddr, gpa: GuestAddr, size: u64, repeat: u64) -> Segment
+    ensures { λ r. ⌜ r ≡ segment hpa gpa size repeat ⌝ }
+{
+    Segment {
+        hpa,
+        gpa,
+        size,
+        repeat,
+    }
+}
+
+// The first n addresses of a segment.
+fn front(n: u64, s: Segment) -> Segment
+    ensures { λ r. ⌜ r ≡ frontOf n s ⌝ }
+{
+    let hpa = s.hpa;
+    let gpa = s.gpa;
+    new_segment(hpa, gpa, n, s.repeat)
+}
+
+// What is left of a segment past its first n addresses.
+fn rest(n: u64, s: Segment) -> Segment
+    requires { ⌜ Good s × (n < s .size) ⌝ }
+    ensures { λ r. ⌜ r ≡ restOf n s ⌝ }
+{
+    let h = s.hpa.0;
+    let g = s.gpa.0;
+    Segment {
+        hpa: HostAddr(h + n),
+        gpa: GuestAddr(g + n),
+        size: s.size - n,
+        repeat: s.repeat,
+    }
+}
+
+// Does the segment's guest span hold an end of the range?
+fn is_hit(start: GuestAddr, end: GuestAddr, s: Segment) -> bool
+    requires { ⌜ Good s ⌝ }
+    ensures { λ r. ⌜ r ≡ hits start end s ⌝ }
+{
+    let a = start.0;
+    let e = end.0;
+    let g = s.gpa.0;
+    let z = span_end(s);
+    or(and(g <= a, a < z), and(g < e, e <= z))
+}
+
+fn is_host_inside(start: HostAddr, end: HostAddr, s: Segment) -> bool
+    requires { ⌜ Good s ⌝ }
+    ensures { λ r. ⌜ r ≡ hostInside start end s ⌝ }
+{
+    let h = s.hpa.0;
+    and(h < start.0, end.0 < host_end(s))
+}
+
+// What question 13 refuses.
+fn is_front_cut(start: HostAddr, end: HostAddr, s: Segment) -> bool
+    requires { ⌜ Good s ⌝ }
+    ensures { λ r. ⌜ r ≡ frontCut start end s ⌝ }
+{
+    let h = s.hpa.0;
+    and(and(start.0 <= h, h < end.0), end.0 < host_end(s))
+}
+
+fn is_touched(start: GuestAddr, end: GuestAddr, s: Segment) -> bool
+    requires { ⌜ Good s ⌝ }
+    ensures { λ r. ⌜ r ≡ touched start end s ⌝ }
+{
+    let g = s.gpa.0;
+    and(start.0 < span_end(s), g < end.0)
+}
+
+fn is_span_whole(start: GuestAddr, end: GuestAddr, s: Segment) -> bool
+    requires { ⌜ Good s ⌝ }
+    ensures { λ r. ⌜ r ≡ spanWhole start end s ⌝ }
+{
+    let g = s.gpa.0;
+    and(start.0 <= g, span_end(s) <= end.0)
+}
+
+fn is_span_inside(start: GuestAddr, end: GuestAddr, s: Segment) -> bool
+    requires { ⌜ Good s ⌝ }
+    ensures { λ r. ⌜ r ≡ spanInside start end s ⌝ }
+{
+    let g = s.gpa.0;
+    and(g < start.0, end.0 < span_end(s))
+}
+
+// Touched, not wholly covered, and repeated: what question 15 refuses.
+fn is_repeated(start: GuestAddr, end: GuestAddr, s: Segment) -> bool
+    requires { ⌜ Good s ⌝ }
+    ensures { λ r. ⌜ r ≡ repeats start end s ⌝ }
+{
+    let t = s.repeat;
+    let w = is_span_whole(start, end, s);
+    let hit = is_touched(start, end, s);
+    and(hit, and(!w, t != 1))
+}
+
+// The second half of a segment that becomes two, or else the one before it.
+fn second(start: GuestAddr, end: GuestAddr, s: Segment, half: Segment) -> Segment
+    requires { ⌜ Good s × (start .0 ≤ end .0) ⌝ }
+    ensures { λ r. ⌜ r ≡ halfOf start end s half ⌝ }
+{
+    let t = s.repeat;
+    let d = is_span_inside(start, end, s);
+    if and(d, t == 1) {
+        let g = s.gpa.0;
+        rest(end.0 - g, s)
+    } else {
+        half
+    }
+}
+
+// What a host range leaves of a segment.
+fn leave_host(start: HostAddr, end: HostAddr, s: Segment) -> Left
+    requires { ⌜ Good s × (start .0 ≤ end .0) ⌝ }
+    ensures { λ r. ⌜ r ≡ leftHost start end s ⌝ }
+{
+    let a = start.0;
+    let e = end.0;
+    let h = s.hpa.0;
+    let z = host_end(s);
+    if a <= h {
+        if z <= e {
+            return Left::Gone;
+        }
+        return Left::Kept(s);
+    }
+    if e < z {
+        return Left::Two(front(a - h, s), rest(e - h, s));
+    }
+    if a < z {
+        return Left::Kept(front(a - h, s));
+    }
+    Left::Kept(s)
+}
+
+// What a guest range leaves of a segment in its place.
+fn leave_guest(start: GuestAddr, end: GuestAddr, s: Segment) -> Left
+    requires { ⌜ Good s × (okGuest start end s ≡ true) ⌝ }
+    ensures { λ r. ⌜ r ≡ leftGuest start end s ⌝ }
+{
+    let a = start.0;
+    let e = end.0;
+    let g = s.gpa.0;
+    let z = span_end(s);
+    if z <= a {
+        return Left::Kept(s);
+    }
+    if e <= g {
+        return Left::Kept(s);
+    }
+    if g < a {
+        return Left::Kept(front(a - g, s));
+    }
+    if z <= e {
+        return Left::Gone;
+    }
+    Left::Kept(rest(e - g, s))
+}
+
+// What a range leaves of a segment in its place.
+fn leave(span: Span, s: Segment) -> Left
+    requires { ⌜ Good s × inRange span × (okFor span s ≡ true) ⌝ }
+    ensures { λ r. ⌜ r ≡ leftOf span s ⌝ }
+{
+    match span {
+        Span::Host(start, end) => leave_host(start, end, s),
+        Span::Guest(start, end) => leave_guest(start, end, s),
+    }
+}
+
+// The questions of a host range, of one segment more.
+fn ask_host(start: HostAddr, end: HostAddr, k: Asked, s: Segment) -> Asked
+    requires { ⌜ Good s ⌝ }
+    ensures { λ r. ⌜ r ≡ askHost start end k s ⌝ }
+{
+    let half = k.half;
+    let split = or(k.split, is_host_inside(start, end, s));
+    let bad = or(k.bad, is_front_cut(start, end, s));
+    Asked {
+        one: k.one,
+        more: k.more,
+        split,
+        half,
+        bad,
+    }
+}
+
+// The questions of a guest range, of one segment more.
+fn ask_guest(start: GuestAddr, end: GuestAddr, k: Asked, s: Segment) -> Asked
+    requires { ⌜ Good s × (start .0 ≤ end .0) ⌝ }
+    ensures { λ r. ⌜ r ≡ askGuest start end k s ⌝ }
+{
+    let t = is_touched(start, end, s);
+    let before = k.half;
+    let half = second(start, end, s, before);
+    let both = and(k.one, t);
+    let one = or(k.one, t);
+    let more = or(k.more, both);
+    let split = or(k.split, is_span_inside(start, end, s));
+    let bad = or(k.bad, is_repeated(start, end, s));
+    Asked {
+        one,
+        more,
+        split,
+        half,
+        bad,
+    }
+}
+
+fn ask_one(span: Span, k: Asked, s: Segment) -> Asked
+    requires { ⌜ Good s × inRange span ⌝ }
+    ensures { λ r. ⌜ r ≡ askStep span k s ⌝ }
+{
+    match span {
+        Span::Host(start, end) => ask_host(start, end, k, s),
+        Span::Guest(start, end) => ask_guest(start, end, k, s),
+    }
+}
+
+// ---- questions that need no walk
+
+// A map that stores nothing.
+fn is_identity(hpa: HostAddr, gpa: GuestAddr, repeat: u64) -> bool
+    ensures { λ r. ⌜ r ≡ isIdentity hpa gpa repeat ⌝ }
+{
+    and(repeat == 1, gpa.0 == hpa.0)
+}
+
+// Questions 9 and 10 of a map.
+fn can_map(hpa: HostAddr, gpa: GuestAddr, size: u64, repeat: u64) -> Answer
+    ensures { λ r. ⌜ r ≡ canMap hpa gpa size repeat ⌝ }
+{
+    let g = gpa.0;
+    let h = hpa.0;
+    if size < 1 {
+        return Answer::Refused(Refusal::EmptySegment);
+    }
+    if repeat < 1 {
+        return Answer::Refused(Refusal::EmptySegment);
+    }
+    if MOST / repeat < size {
+        return Answer::Refused(Refusal::Overflow);
+    }
+    if MOST - g < size * repeat {
+        return Answer::Refused(Refusal::Overflow);
+    }
+    if MOST - h < size {
+        return Answer::Refused(Refusal::Overflow);
+    }
+    Answer::Accepted(0)
+}
+
+// Questions 12 and 13 of a host range, with so many slots in use.
+fn can_unmap(k: Asked, used: usize) -> Answer
+    ensures { λ r. ⌜ r ≡ canUnmap k used ⌝ }
+{
+    if and(k.split, 64 <= used) {
+        return Answer::Refused(Refusal::NoSlot);
+    }
+    if k.bad {
+        return Answer::Refused(Refusal::FrontCut);
+    }
+    Answer::Accepted(0)
+}
+
+// A guest range: of an empty list, or of size 0, nothing is asked, and the value is 0. Question 10, and 1 to go on.
+fn can_start(empty: bool, gpa: GuestAddr, size: u64) -> Answer
+    ensures { λ r. ⌜ r ≡ canStart empty gpa size ⌝ }
+{
+    let g = gpa.0;
+    if or(empty, size == 0) {
+        return Answer::Accepted(0);
+    }
+    if MOST - g < size {
+        return Answer::Refused(Refusal::Overflow);
+    }
+    Answer::Accepted(1)
+}
+
+// Questions 15, 16 and 12 of a guest range, with so many slots in use.
+fn can_unmap_gpa(k: Asked, used: usize) -> Answer
+    ensures { λ r. ⌜ r ≡ canUnmapGpa k used ⌝ }
+{
+    if k.bad {
+        return Answer::Refused(Refusal::Repeated);
+    }
+    if and(k.split, k.more) {
+        return Answer::Refused(Refusal::OthersTouched);
+    }
+    if and(k.split, 64 <= used) {
+        return Answer::Refused(Refusal::NoSlot);
+    }
+    Answer::Accepted(0)
+}
+
+fn put_segment(out: &mut [u64], n: usize, s: Segment)
+    requires { ⌜ 4 * n + 4 ≤ length (now out) ⌝ }
+    ensures { λ _. ⌜ now (out .exit) ≡ sets (now (out .entry)) (4 * n) (wordsOf s) ⌝ }
+{
+    let b = 4 * n;
+    out[b] = s.hpa.0;
+    out[b + 1] = s.gpa.0;
+    out[b + 2] = s.size;
+    out[b + 3] = s.repeat;
+}
+
+impl Remapper {
+    pub(crate) fn new() -> Self
+        ensures { λ r. ⌜ Holds r [] ⌝ }
+    {
+        let none = Segment {
+            hpa: HostAddr(0),
+            gpa: GuestAddr(0),
+            size: 0,
+            repeat: 0,
+        };
+        let segments = [none; 64];
+        let links = [64usize; 64];
+        let mut free = [0usize; 64];
+        let list = FreeList::new(&mut free);
+        Remapper {
+            segments,
+            links,
+            free,
+            list,
+            head: 64,
+        }
+    }
+
+    // A segment goes into a free slot, between prev and at.
+    fn link_in(self, prev: usize, at: usize, s: Segment) -> Remapper
+        requires { ⌜ ((done : List Segment) × (ts : List Segment) × Zip self prev at done ts × (length done + length ts < 64)) ⌝ }
+        ensures { λ r. ⌜ ((done ts : List Segment) → Zip self prev at done ts → length done + length ts < 64 → Good s → Holds r (done ++ (s ∷ ts))) ⌝ }
+    {
+        let mut out = self;
+        let list = out.list;
+        let x = list.head;
+        out.segments[x] = s;
+        out.links[x] = at;
+        let head = out.head;
+        let first = join(&mut out.links, head, prev, x);
+        out.head = first;
+        let a = take_slot(&mut out.free, list);
+        let rest = a.list;
+        out.list = rest;
+        out
+    }
+
+    // A segment is put in its place, after its equals; a free slot is there.
+    pub(crate) fn insert_segment(self, s: Segment) -> Remapper
+        requires { ⌜ Good s × ((ss : List Segment) × Holds self ss × (length ss < 64)) ⌝ }
+        ensures { λ r. ⌜ ((ss : List Segment) → Holds self ss → length ss < 64 → Holds r (place s ss)) ⌝ }
+    {
+        let h = s.hpa.0;
+        let mut prev: usize = 64;
+        let mut at = self.head;
+        let mut on = at;
+        while on < 64 {
+            let t = self.segments[on];
+            if h < t.hpa.0 {
+                on = 64;
+            } else {
+                prev = on;
+                at = self.links[on];
+                on = at;
+            }
+        }
+        let mut out = self;
+        let list = out.list;
+        let x = list.head;
+        out.segments[x] = s;
+        out.links[x] = at;
+        let head = out.head;
+        let first = join(&mut out.links, head, prev, x);
+        out.head = first;
+        let a = take_slot(&mut out.free, list);
+        let rest = a.list;
+        out.list = rest;
+        out
+    }
+
+    // Are the segments in the order of their host addresses?
+    fn sorted(self) -> bool
+        requires { ⌜ IsHeld self ⌝ }
+        ensures { λ r. ⌜ ((ss : List Segment) → Holds self ss → r ≡ inOrder ss) ⌝ }
+    {
+        let mut last: u64 = 0;
+        let mut at = self.head;
+        while at < 64 {
+            let s = self.segments[at];
+            let h = s.hpa.0;
+            if h < last {
+                return false;
+            }
+            last = h;
+            at = self.links[at];
+        }
+        true
+    }
+
+    // What the questions of an unmap want to know.
+    fn asked(self, span: Span) -> Asked
+        requires { ⌜ IsHeld self × inRange span ⌝ }
+        ensures { λ r. ⌜ ((ss : List Segment) → Holds self ss → r ≡ askAll span nothingAsked ss) ⌝ }
+    {
+        let none = Segment {
+            hpa: HostAddr(0),
+            gpa: GuestAddr(0),
+            size: 0,
+            repeat: 0,
+        };
+        let mut k = Asked {
+            one: false,
+            more: false,
+            split: false,
+            half: none,
+            bad: false,
+        };
+        let mut at = self.head;
+        while at < 64 {
+            let s = self.segments[at];
+            k = ask_one(span, k, s);
+            at = self.links[at];
+        }
+        k
+    }
+
+    // Each segment becomes what the range leaves of it. The questions were asked.
+    fn trim(self, span: Span) -> Remapper
+        requires { ⌜ inRange span × ((ss : List Segment) × Holds self ss × Trimmable span ss) ⌝ }
+        ensures { λ r. ⌜ ((ss : List Segment) → Holds self ss → Trimmable span ss → Holds r (walked span ss)) ⌝ }
+    {
+        let mut out = self;
+        let mut prev: usize = 64;
+        let mut at = self.head;
+        while at < 64 {
+            let s = out.segments[at];
+            let next = out.links[at];
+            let l = leave(span, s);
+            match l {
+                Left::Gone => {
+                    let head = out.head;
+                    let first = join(&mut out.links, head, prev, next);
+                    out.head = first;
+                    let list = out.list;
+                    let f = free_slot(&mut out.free, list, at);
+                    let more = f.list;
+                    out.list = more;
+                    at = next;
+                }
+                Left::Kept(t) => {
+                    out.segments[at] = t;
+                    prev = at;
+                    at = next;
+                }
+                Left::Two(t, u) => {
+                    out.segments[at] = t;
+                    return out.link_in(at, next, u);
+                }
+            }
+        }
+        out
+    }
+
+    // Does a stored guest span hold an end of the range? A miss behind the range's end stops the walk.
+    pub(crate) fn overlaps(self, start: GuestAddr, size: u64) -> Answer
+        requires { ⌜ IsHeld self ⌝ }
+        ensures { λ r. ⌜ Overlaps self start size r ⌝ }
+    {
+        let a = start.0;
+        if MOST - a < size {
+            return Answer::Refused(Refusal::Overflow);
+        }
+        let e = a + size;
+        let mut at = self.head;
+        while at < 64 {
+            let s = self.segments[at];
+            if is_hit(start, GuestAddr(e), s) {
+                return Answer::Accepted(1);
+            }
+            let g = s.gpa.0;
+            if e < g {
+                return Answer::Accepted(0);
+            }
+            at = self.links[at];
+        }
+        Answer::Accepted(0)
+    }
+
+    pub(crate) fn map_range(self, hpa: HostAddr, gpa: GuestAddr, size: u64, repeat: u64) -> Changed
+        requires { ⌜ IsHeld self ⌝ }
+        ensures { λ r. ⌜ Maps self hpa gpa size repeat r ⌝ }
+    {
+        let first = can_map(hpa, gpa, size, repeat);
+        let Answer::Accepted(_) = first else {
+            return Changed {
+                answer: first,
+                remapper: self,
+            };
+        };
+        let hit = self.overlaps(gpa, size * repeat);
+        if hit.value() == 1 {
+            return Changed {
+                answer: Answer::Refused(Refusal::AlreadyAliased),
+                remapper: self,
+            };
+        }
+        let list = self.list;
+        if is_identity(hpa, gpa, repeat) {
+            return Changed {
+                answer: Answer::Accepted(0),
+                remapper: self,
+            };
+        }
+        if 64 <= list.count {
+            return Changed {
+                answer: Answer::Refused(Refusal::NoSlot),
+                remapper: self,
+            };
+        }
+        let s = new_segment(hpa, gpa, size, repeat);
+        let out = self.insert_segment(s);
+        Changed {
+            answer: Answer::Accepted(0),
+            remapper: out,
+        }
+    }
+
+    pub(crate) fn unmap_range(self, hpa: HostAddr, size: u64) -> Changed
+        requires { ⌜ IsHeld self ⌝ }
+        ensures { λ r. ⌜ Unmaps self hpa size r ⌝ }
+    {
+        let a = hpa.0;
+        if MOST - a < size {
+            return Changed {
+                answer: Answer::Refused(Refusal::Overflow),
+                remapper: self,
+            };
+        }
+        let span = Span::Host(hpa, HostAddr(a + size));
+        let k = self.asked(span);
+        let list = self.list;
+        let first = can_unmap(k, list.count);
+        let Answer::Accepted(_) = first else {
+            return Changed {
+                answer: first,
+                remapper: self,
+            };
+        };
+        let out = self.trim(span);
+        if out.sorted() {
+            return Changed {
+                answer: Answer::Accepted(0),
+                remapper: out,
+            };
+        }
+        Changed {
+            answer: Answer::Refused(Refusal::OutOfOrder),
+            remapper: self,
+        }
+    }
+
+    // A second half is placed as a new segment; that keeps the order, so it is asked of the list without it.
+    pub(crate) fn unmap_gpa_range(self, gpa: GuestAddr, size: u64) -> Changed
+        requires { ⌜ IsHeld self ⌝ }
+        ensures { λ r. ⌜ UnmapsGpa self gpa size r ⌝ }
+    {
+        let list = self.list;
+        let early = can_start(64 <= self.head, gpa, size);
+        if early.value() != 1 {
+            return Changed {
+                answer: early,
+                remapper: self,
+            };
+        }
+        let span = Span::Guest(gpa, GuestAddr(gpa.0 + size));
+        let k = self.asked(span);
+        let first = can_unmap_gpa(k, list.count);
+        let Answer::Accepted(_) = first else {
+            return Changed {
+                answer: first,
+                remapper: self,
+            };
+        };
+        let cut = self.trim(span);
+        if cut.sorted() {
+            if k.split {
+                return Changed {
+                    answer: Answer::Accepted(0),
+                    remapper: cut.insert_segment(k.half),
+                };
+            }
+            return Changed {
+                answer: Answer::Accepted(0),
+                remapper: cut,
+            };
+        }
+        Changed {
+            answer: Answer::Refused(Refusal::OutOfOrder),
+            remapper: self,
+        }
+    }
+
+    // A cursor before the first segment.
+    pub(crate) fn iter_segments(self) -> RemapperSegmentIterator
+        ensures { λ r. ⌜ Starts self r ⌝ }
+    {
+        RemapperSegmentIterator {
+            next_segment: self.head,
+        }
+    }
+
+    // All segments in list order, four numbers each, and how many they are.
+    pub(crate) fn copy_segments(self, out: &mut [u64]) -> usize
+        requires { ⌜ IsHeld self ⌝ }
+        requires { ⌜ 256 ≤ length (now out) ⌝ }
+        ensures { λ n. ⌜ ((ss : List Segment) → Holds self ss → Copied ss (now (out .entry)) (now (out .exit)) n) ⌝ }
+    {
+        let mut at = self.head;
+        let mut n: usize = 0;
+        while at < 64 {
+            let s = self.segments[at];
+            put_segment(out, n, s);
+            at = self.links[at];
+            n += 1;
+        }
+        n
+    }
+}
+
+impl RemapperSegmentIterator {
+    pub(crate) fn next(self, remapper: Remapper) -> NextSegment
+        requires { ⌜ IsAhead remapper self ⌝ }
+        ensures { λ r. ⌜ Steps remapper self r ⌝ }
+    {
+        let at = self.next_segment;
+        if at < 64 {
+            let s = remapper.segments[at];
+            let next = remapper.links[at];
+            return NextSegment::At(s, RemapperSegmentIterator { next_segment: next });
+        }
+        NextSegment::End
+    }
+}
