@@ -2,19 +2,19 @@
 use Prim.Native.Nat.{ℕ, zero, suc, _+_, _-_, _^_, _≤_, _<_}
 use mathlib.Core.Path.{_≡_, refl, sym, ap, ap₂, _∙_, subst}
 use mathlib.Core.Bool.{Bool, true, false}
-use mathlib.Core.List.{List, [], _∷_, _++_, map}
+use mathlib.Core.List.{List, [], _∷_, _++_}
 use native.Mathlib.Omega.{arith}
 use native.Mathlib.Decide.{decLt}
 use lib.ListN.{getD, set, length, length-set, length-map}
-use lib.Seq.{getD-set-same, getD-set-other}
+use lib.Seq.{getD-set-same, getD-set-other, set-getD}
 use borrow.Author.Tests.{lt-ltb, le-ltb, leb-true}
+use Rattle.gen_arena.specs.declared.GenArena.{GenArena}
 use Rattle.definitions.specs.Tests.{_<?_, _≤?_, if_then_else_}
 use Rattle.definitions.specs.Values.{changedIn, raise, lower}
-use Rattle.definitions.specs.Regions.{regions, refcountOf, permissionOf}
-use Rattle.definitions.specs.Pages.{page, filled, permissionGroup}
-use Rattle.definitions.specs.Reckoning.{Compartment, empty, reckon, compartmentOf, withValues}
+use Rattle.definitions.specs.Regions.{regions, refcountOf}
+use Rattle.definitions.specs.Reckoning.{Compartment, reckon, compartmentOf, withValues}
 use Rattle.definitions.specs.Questions.{ask, ranged, accepted, onRefcount}
-use Rattle.definitions.specs.Calls.{State, compartment, used, permissionGroups, answerIn, answer, after}
+use Rattle.definitions.specs.Calls.{State, compartment, used, answerIn, answer, after}
 use Rattle.definitions.specs.declared.addr.HostAddr.{HostAddr}
 use Rattle.definitions.specs.declared.region.Values.{Values}
 use Rattle.definitions.specs.declared.region.Region.{Region}
@@ -22,10 +22,10 @@ use Rattle.definitions.specs.declared.answer.Refusal.the-variants.{NoCompartmen
 use Rattle.definitions.specs.declared.answer.Answer.{Answer}
 use Rattle.definitions.specs.declared.answer.Answer.the-variants.{Accepted, Refused}
 use Rattle.definitions.specs.declared.call.Call.{Call}
-use Rattle.definitions.specs.declared.call.Call.the-variants.{Add, Remove, Refcount, Permissions}
+use Rattle.definitions.specs.declared.call.Call.the-variants.{Add, Remove, Refcount}
 use Rattle.definitions.proofs.Bools.{in-empty}
 use Rattle.definitions.proofs.Lists.{added, removed}
-use Rattle.definitions.proofs.RunLaws.{regions-ext}
+use Rattle.definitions.proofs.RunLaws.{regions-ext, regions-runs, regions-end}
 use Rattle.definitions.proofs.RegionsAre.{added-is, removed-is}
 use Rattle.definitions.proofs.Passed.{passed}
 use Rattle.definitions.proofs.Stored.{stored}
@@ -33,22 +33,19 @@ use Rattle.definitions.proofs.Tables.{Table, addOn, removeOn}
 use Rattle.definitions.proofs.TableLaws.{Shown, add-is, remove-is}
 use Rattle.definitions.proofs.Reckoned.{after-snoc, next-accepted, next-refused, next-read, length-after}
 use Rattle.capability_engine.specs.declared.region.RegionTracker.{RegionTracker}
-use Rattle.capability_engine.specs.declared.compartments.Trackers.{Trackers}
 use Rattle.capability_engine.specs.PoolWords.{regionAt}
 use Rattle.capability_engine.specs.PoolChain.{Seg, cnt, slots, records, Listed, Walkable, storedAt}
 use Rattle.capability_engine.specs.PoolOwn.{Heap, heap, freeOf, Own, mineOf}
 use Rattle.capability_engine.specs.RegionAsks.{Tracked, Untouched, Moved, Changes}
-use Rattle.capability_engine.specs.CompartmentGrown.{Holding, Holds, inLists, allLong, Grown, SameTables, Answers, Counts, ReadsPermissions}
-use Rattle.capability_engine.specs.StreamPage.{Filled}
+use Rattle.capability_engine.specs.StreamCursor.{Whole}
+use Rattle.capability_engine.specs.CompartmentGrown.{Holding, Holds, inLists, allLong, Trackers, Pooled}
+use Rattle.capability_engine.specs.CompartmentSteps.{SamePool, PoolAnswers}
 use Rattle.capability_engine.proofs.PoolLinks.{slots-are, seg-frame, seg-set}
 use Rattle.capability_engine.proofs.PoolSlots.{records-frame}
 use Rattle.capability_engine.proofs.PoolOwns.{seg-low, seg-high, owned, own-listed}
 use Rattle.capability_engine.proofs.PoolHeaps.{free-low}
 use Rattle.capability_engine.proofs.RegionTracks.{mine-is}
-
--- the tracker of compartment k, an empty one past the eight
-none : RegionTracker
-none = record { head = 1024 }
+use Rattle.capability_engine.proofs.StreamStarts.{whole-of}
 
 -- ---- lists of trackers
 
@@ -162,13 +159,8 @@ module _ (nx ws nx' ws' : List ℕ) (size : length nx' ≡ 1025) (touched : ℕ 
         long = omega (arith, r .long, ap length (one-slots t c (h .0) g));
       }
 
-set-same : (l : List RegionTracker) (k : ℕ) (d : RegionTracker) → set l k (getD l k d) ≡ l
-set-same [] k d = refl
-set-same (a ∷ l) zero d = refl
-set-same (a ∷ l) (suc k) d = ap (λ (t : List RegionTracker). a ∷ t) (set-same l k d)
-
 -- a compartment's values change, and its regions do not
-holds-set : (nx ws : List ℕ) (ts : List RegionTracker) (cs : State) (k : ℕ) (c' : Compartment) → Holds nx ws ts cs → k < length ts
+pub holds-set : (nx ws : List ℕ) (ts : List RegionTracker) (cs : State) (k : ℕ) (c' : Compartment) → Holds nx ws ts cs → k < length ts
     → regions (c' .values) ≡ regions (compartment cs k .values) → Holds nx ws ts (set cs k c')
 unfolding compartment
 holds-set nx ws [] cs k c' h l e = absurd (omega arith)
@@ -189,23 +181,44 @@ range-of2 : (a e : HostAddr) (k n : ℕ) (rs : List Region) → accepted (remove
 unfolding removeOn
 range-of2 a e k n rs h = in-order a e k _ h
 
-module _ (words nx links gens : List ℕ) (t : Trackers) (calls : List Call) (g : Grown words nx links gens t calls) (k : ℕ) (lk : k < 8) (d : RegionTracker) where
+-- question 1, and the answer of a call that passes it
+pub passed-one : (k : ℕ) → k < 8 → (x y : Answer) → x ≡ y → x ≡ ask ((k <? 8, NoCompartment) ∷ []) y
+unfolding ask
+passed-one k l x y e = e ∙ sym (rw (lt-ltb k 8 l))
+
+pub failed-one : (k : ℕ) → 8 ≤ k → (y : Answer) → Refused NoCompartment ≡ ask ((k <? 8, NoCompartment) ∷ []) y
+unfolding ask
+failed-one k l y = rw (le-ltb k 8 l)
+
+pub answer-in : (s : State) (call : Call) → compartmentOf call < 8 → (x : Answer) → x ≡ answerIn (used s) (compartment s (compartmentOf call)) call → x ≡ answer s call
+unfolding answer
+answer-in s call l x e = passed-one (compartmentOf call) l x _ e
+
+module _ (words nx links gens : List ℕ) (t : Trackers) (calls : List Call) (g : Pooled words nx links gens t calls) where
+  pub eight : length (t .list) ≡ 8
+  eight = holds-long nx words (t .list) (after calls) (g .holds) ∙ length-after calls
+
+  -- other calls may have left the same
+  pub repooled : (more : List Call) → Holds nx words (t .list) (after more) → Pooled words nx links gens t more
+  repooled more h = record { nextSize = g .nextSize; wordsSize = g .wordsSize; arena = g .arena; holds = h; once = g .once; total = g .total }
+
+module _ (words nx links gens : List ℕ) (t : Trackers) (calls : List Call) (g : Pooled words nx links gens t calls) (k : ℕ) (lk : k < 8) (d : RegionTracker) where
   abbrev first : ℕ
   first = getD (t .list) k d .head
 
   abbrev pool : Heap
   pool = heap links gens (t .arena)
 
-  eight : length (t .list) ≡ 8
-  eight = holds-long nx words (t .list) (after calls) (g .holds) ∙ length-after calls
+  long : k < length (t .list)
+  long = omega (arith, eight words nx links gens t calls g)
 
-  here : Holding nx words (getD (t .list) k d) (compartment (after calls) k)
-  here = holds-at nx words (t .list) (after calls) k (g .holds) (omega (arith, eight)) d
+  pub here : Holding nx words (getD (t .list) k d) (compartment (after calls) k)
+  here = holds-at nx words (t .list) (after calls) k (g .holds) long d
 
   one-of : (x : ℕ) → cnt x (slots nx first) + cnt x (freeOf pool) ≤ 1
   one-of x =
       elim (decLt x 1024) [
-        | yes l ↦ omega (arith, g .once x l, in-at x nx (t .list) k d (omega (arith, eight)))
+        | yes l ↦ omega (arith, g .once x l, in-at x nx (t .list) k d long)
         | no l ↦ omega (arith, seg-high nx first (slots nx first) 1024 x (omega arith) (here .listed .seg), free-low pool (g .arena .calls) (g .arena .grown) x (omega arith))
       ]
 
@@ -219,7 +232,7 @@ module _ (words nx links gens : List ℕ) (t : Trackers) (calls : List Call) (g 
         ring = subst (λ (n : ℕ). Seg (set nx 1024 first) n (slots nx first) 1024) (sym h) s;
         low = λ x l. free-low pool (g .arena .calls) (g .arena .grown) x l;
         once = one-of;
-        few = omega (arith, g .total, long-at nx (t .list) k d (omega (arith, eight)));
+        few = omega (arith, g .total, long-at nx (t .list) k d long);
       }
 
   pub grown-tracked : Tracked nx words pool first
@@ -235,6 +248,9 @@ module _ (words nx links gens : List ℕ) (t : Trackers) (calls : List Call) (g 
   pub grown-walk : Walkable nx words first
   grown-walk = record { listed = here .listed; words = g .wordsSize }
 
+  pub grown-whole : Whole nx words first
+  grown-whole = whole-of (here .listed) (here .shown) (regions-runs (compartment (after calls) k .values)) (regions-end (compartment (after calls) k .values)) .0
+
   used-is : used (after calls) ≡ 1024 - length (freeOf pool)
   used-is = holds-used nx words (t .list) (after calls) (g .holds) ∙ (omega (arith, g .total))
 
@@ -245,18 +261,13 @@ module _ (words nx links gens : List ℕ) (t : Trackers) (calls : List Call) (g 
   unfolding table
   shown = record { blank = stored calls k .blank; records = sym (here .shown); segments = refl }
 
-  -- the answer of a call that names this compartment
-  pub answer-in : (call : Call) → compartmentOf call ≡ k → (x : Answer) → x ≡ answerIn (used (after calls)) (compartment (after calls) k) call → x ≡ answer (after calls) call
-  unfolding answer ask
-  answer-in call ek x ex = ex ∙ sym (rw (ek, lt-ltb k 8 lk))
-
-  module _ (nx' ws' links' gens' : List ℕ) (arena' : Rattle.gen_arena.specs.declared.GenArena.GenArena) (head' : ℕ) where
+  module _ (nx' ws' links' gens' : List ℕ) (arena' : GenArena) (head' : ℕ) where
     abbrev left : Trackers
     left = record { arena = arena'; list = set (t .list) k (record { head = head' }) }
 
-    untouched : Untouched nx words pool first nx' ws' (heap links' gens' arena') head' → SameTables words nx links gens t ws' nx' links' gens' left
+    untouched : Untouched nx words pool first nx' ws' (heap links' gens' arena') head' → SamePool words nx links gens t ws' nx' links' gens' left
     untouched u =
-        let l : set (t .list) k (record { head = head' }) ≡ t .list = ap (λ (n : ℕ). set (t .list) k (record { head = n })) (u .first) ∙ set-same (t .list) k d in
+        let l : set (t .list) k (record { head = head' }) ≡ t .list = ap (λ (n : ℕ). set (t .list) k (record { head = n })) (u .first) ∙ set-getD (t .list) k d in
         let a : arena' ≡ t .arena = ap (λ (h : Heap). h .arena) (u .heap) in
         record {
           sameWords = u .words;
@@ -266,13 +277,12 @@ module _ (words nx links gens : List ℕ) (t : Trackers) (calls : List Call) (g 
           sameTrackers = λ i. record { arena = a i; list = l i };
         }
 
-    regrown : (more : List Call) → Holds nx words (t .list) (after more) → SameTables words nx links gens t ws' nx' links' gens' left → Grown ws' nx' links' gens' left more
+    regrown : (more : List Call) → Holds nx words (t .list) (after more) → SamePool words nx links gens t ws' nx' links' gens' left → Pooled ws' nx' links' gens' left more
     regrown more h s =
-        rw (s .sameWords, s .sameNext, s .sameLinks, s .sameGens, s .sameTrackers)
-        (record { nextSize = g .nextSize; wordsSize = g .wordsSize; arena = g .arena; holds = h; once = g .once; total = g .total })
+        rw (s .sameWords, s .sameNext, s .sameLinks, s .sameGens, s .sameTrackers) (repooled words nx links gens t calls g more h)
 
     moved : (c' : Compartment) (more : List Call) (rs : List Region) → regions (c' .values) ≡ rs → after more ≡ set (after calls) k c'
-        → Moved nx words pool first nx' ws' (heap links' gens' arena') head' rs → Grown ws' nx' links' gens' left more
+        → Moved nx words pool first nx' ws' (heap links' gens' arena') head' rs → Pooled ws' nx' links' gens' left more
     moved c' more rs er em m =
         let p = m .pass in
         let mi : mineOf (set nx 1024 first) ≡ slots nx first = mine-is nx words pool first grown-tracked in
@@ -280,7 +290,7 @@ module _ (words nx links gens : List ℕ) (t : Trackers) (calls : List Call) (g 
         record { listed = rw (m .first) (own-listed (p .ready .own)); shown = rw (m .first) (p .now ∙ sym er) } in
         let r =
         replace nx words nx' ws' (p .ready .own .size) (λ x. cnt x (mineOf (set nx 1024 first)) + cnt x (freeOf pool))
-        (λ x l z. p .links x l z ∙ getD-set-other nx 1024 x first 0 (λ q. omega arith)) (p .kept) (t .list) (after calls) k d (record { head = head' }) c' (g .holds) (omega (arith, eight)) h
+        (λ x l z. p .links x l z ∙ getD-set-other nx 1024 x first 0 (λ q. omega arith)) (p .kept) (t .list) (after calls) k d (record { head = head' }) c' (g .holds) long h
         (λ x l n. rw mi (omega (arith, g .once x l))) in
         let hm : slots nx' head' ≡ mineOf nx' = ap (slots nx') (m .first) in
         record {
@@ -299,9 +309,9 @@ module _ (words nx links gens : List ℕ) (t : Trackers) (calls : List Call) (g 
         (he : a .0 ≡ e .0 → regions (reckon call (compartment (after calls) k) .values) ≡ regions (compartment (after calls) k .values))
         (ch : Changes expected a e nx words pool first nx' ws' (heap links' gens' arena') head' rs r) where
       told : r ≡ answer (after calls) call
-      told = answer-in call ek r (ch .answer ∙ ha)
+      told = answer-in (after calls) call (rw ek lk) r (rw ek (ch .answer ∙ ha))
 
-      goes : (b : Bool) → accepted r ≡ b → Grown ws' nx' links' gens' left (calls ++ (call ∷ []))
+      goes : (b : Bool) → accepted r ≡ b → Pooled ws' nx' links' gens' left (calls ++ (call ∷ []))
       goes false f =
           let n : after (calls ++ (call ∷ [])) ≡ after calls = after-snoc calls call ∙ next-refused (after calls) call (ap accepted (sym told) ∙ f) in
           regrown (calls ++ (call ∷ [])) (rw n (g .holds)) (untouched (ch .kept f))
@@ -313,21 +323,21 @@ module _ (words nx links gens : List ℕ) (t : Trackers) (calls : List Call) (g 
             | yes q ↦ moved (reckon call (compartment (after calls) k)) (calls ++ (call ∷ [])) rs hr n (ch .done f q)
             | no q ↦
                 (let z : a .0 ≡ e .0 = omega arith in
-                regrown (calls ++ (call ∷ [])) (rw n (holds-set nx words (t .list) (after calls) k _ (g .holds) (omega (arith, eight)) (he z))) (untouched (ch .empty z)))
+                regrown (calls ++ (call ∷ [])) (rw n (holds-set nx words (t .list) (after calls) k _ (g .holds) long (he z))) (untouched (ch .empty z)))
           ]
 
-      pub answers : Answers calls call words nx links gens t ws' nx' links' gens' (record { trackers = left; answer = r })
-      answers = record { answered = told; grown = goes (accepted r) refl; kept = λ f. untouched (ch .kept f) }
+      pub answers : PoolAnswers calls call words nx links gens t ws' nx' links' gens' left r
+      answers = record { answered = told; pooled = goes (accepted r) refl; kept = λ f. untouched (ch .kept f) }
 
-  -- an add, a remove, a reading
+  -- an add, a remove
   module _ (a e : HostAddr) (rights : ℕ) (le : e .0 ≤ 2 ^ 64) where
     empty-change : (f : Values → Values) (v : HostAddr → Values) → a .0 ≡ e .0 → regions (changedIn f a e v) ≡ regions v
     unfolding changedIn
     empty-change f v z = regions-ext (changedIn f a e v) v (λ x l. ap (λ (b : Bool). if b then f (v x) else v x) (in-empty (a .0) (e .0) (x .0) (omega arith)))
 
-    pub add-answers : (nx' ws' links' gens' : List ℕ) (arena' : Rattle.gen_arena.specs.declared.GenArena.GenArena) (head' : ℕ) (r : Answer)
+    pub add-answers : (nx' ws' links' gens' : List ℕ) (arena' : GenArena) (head' : ℕ) (r : Answer)
         → Changes (addOn (1024 - length (freeOf pool)) (storedAt nx words first) a e rights) a e nx words pool first nx' ws' (heap links' gens' arena') head' (added a e rights (storedAt nx words first)) r
-        → Answers calls (Add k a e rights) words nx links gens t ws' nx' links' gens' (record { trackers = record { arena = arena'; list = set (t .list) k (record { head = head' }) }; answer = r })
+        → PoolAnswers calls (Add k a e rights) words nx links gens t ws' nx' links' gens' (record { arena = arena'; list = set (t .list) k (record { head = head' }) }) r
     unfolding compartmentOf reckon withValues answerIn table
     add-answers nx' ws' links' gens' arena' head' r ch =
         answers nx' ws' links' gens' arena' head' (Add k a e rights) refl a e _ _ r
@@ -336,9 +346,9 @@ module _ (words nx links gens : List ℕ) (t : Trackers) (calls : List Call) (g 
         (sym (added-is a e rights (compartment (after calls) k .values) (stored calls k .blank) le) ∙ ap (added a e rights) (sym (here .shown)))
         (empty-change (raise rights) (compartment (after calls) k .values)) ch
 
-    pub remove-answers : (nx' ws' links' gens' : List ℕ) (arena' : Rattle.gen_arena.specs.declared.GenArena.GenArena) (head' : ℕ) (r : Answer)
+    pub remove-answers : (nx' ws' links' gens' : List ℕ) (arena' : GenArena) (head' : ℕ) (r : Answer)
         → Changes (removeOn (1024 - length (freeOf pool)) (storedAt nx words first) a e rights) a e nx words pool first nx' ws' (heap links' gens' arena') head' (removed a e rights (storedAt nx words first)) r
-        → Answers calls (Remove k a e rights) words nx links gens t ws' nx' links' gens' (record { trackers = record { arena = arena'; list = set (t .list) k (record { head = head' }) }; answer = r })
+        → PoolAnswers calls (Remove k a e rights) words nx links gens t ws' nx' links' gens' (record { arena = arena'; list = set (t .list) k (record { head = head' }) }) r
     unfolding compartmentOf reckon withValues answerIn table
     remove-answers nx' ws' links' gens' arena' head' r ch =
         answers nx' ws' links' gens' arena' head' (Remove k a e rights) refl a e _ _ r
@@ -347,63 +357,19 @@ module _ (words nx links gens : List ℕ) (t : Trackers) (calls : List Call) (g 
         (sym (removed-is a e rights (compartment (after calls) k .values) (stored calls k .blank) le) ∙ ap (removed a e rights) (sym (here .shown)))
         (empty-change (lower rights) (compartment (after calls) k .values)) ch
 
-  -- a call that only reads leaves what it was handed grown by it too
-  read-grown : (call : Call) → compartmentOf call ≡ k → ((c : Compartment) → reckon call c ≡ c) → Grown words nx links gens t (calls ++ (call ∷ []))
-  read-grown call ek same =
-      let s : after (calls ++ (call ∷ [])) ≡ after calls = after-snoc calls call ∙ next-read (after calls) call (same _) in
-      record { nextSize = g .nextSize; wordsSize = g .wordsSize; arena = g .arena; holds = rw s (g .holds); once = g .once; total = g .total }
+  -- a reading: the tracker goes back as it was
+  module _ (a e : HostAddr) (n : ℕ) (en : n ≡ refcountOf a e (storedAt nx words first)) where
+    count-answer : Accepted n ≡ answer (after calls) (Refcount k a e)
+    unfolding compartmentOf answerIn onRefcount
+    count-answer = answer-in (after calls) (Refcount k a e) lk (Accepted n) (ap Accepted (en ∙ ap (refcountOf a e) (here .shown)))
 
-  pub counts : (a e : HostAddr) (n : ℕ) → n ≡ refcountOf a e (storedAt nx words first) → Counts calls k a e words nx links gens t (Accepted n)
-  unfolding compartmentOf reckon answerIn onRefcount
-  counts a e n en =
-      record {
-        answered = answer-in (Refcount k a e) refl (Accepted n) (ap Accepted (en ∙ ap (refcountOf a e) (here .shown)));
-        grown = read-grown (Refcount k a e) refl (λ c. refl);
-      }
-
-  pub permits : (from : ℕ) (out out' : List ℕ) (n : ℕ) → Filled 3 (map (λ q. permissionGroup (permissionOf q)) (storedAt nx words first)) from out out' n
-      → ReadsPermissions calls k from words nx links gens t out out' (Accepted n)
-  unfolding compartmentOf reckon answerIn permissionGroups
-  permits from out out' n f =
-      let e : map (λ q. permissionGroup (permissionOf q)) (storedAt nx words first) ≡ map (λ q. permissionGroup (permissionOf q)) (regions (compartment (after calls) k .values)) = ap (map (λ q. permissionGroup (permissionOf q))) (here .shown) in
-      record {
-        answered = answer-in (Permissions k from (length out)) refl (Accepted n) (ap Accepted (f .many ∙ ap (λ gs. length (page 3 gs from (length out))) e));
-        slice = f .slice ∙ ap (λ gs. filled 3 gs from out) e ∙ sym (rw (lt-ltb k 8 lk));
-        grown = read-grown (Permissions k from (length out)) refl (λ c. refl);
-      }
-
--- question 1
-module _ (words nx links gens : List ℕ) (t : Trackers) (calls : List Call) (g : Grown words nx links gens t calls) (call : Call) (l : 8 ≤ compartmentOf call) where
-  past-answer : Refused NoCompartment ≡ answer (after calls) call
-  unfolding answer ask
-  past-answer = rw (le-ltb (compartmentOf call) 8 l)
-
-  past-grown : Grown words nx links gens t (calls ++ (call ∷ []))
-  past-grown =
-      let s : after (calls ++ (call ∷ [])) ≡ after calls = after-snoc calls call ∙ next-refused (after calls) call (ap accepted (sym past-answer)) in
-      record { nextSize = g .nextSize; wordsSize = g .wordsSize; arena = g .arena; holds = rw s (g .holds); once = g .once; total = g .total }
-
-  past-answers : Answers calls call words nx links gens t words nx links gens (record { trackers = t; answer = Refused NoCompartment })
-  past-answers = record { answered = past-answer; grown = past-grown; kept = λ _. record { sameWords = refl; sameNext = refl; sameLinks = refl; sameGens = refl; sameTrackers = refl } }
-
-module _ (words nx links gens : List ℕ) (t : Trackers) (calls : List Call) (g : Grown words nx links gens t calls) (k : ℕ) (a e : HostAddr) (l : 8 ≤ k) where
-  pub past-add : (rights : ℕ) → Answers calls (Add k a e rights) words nx links gens t words nx links gens (record { trackers = t; answer = Refused NoCompartment })
-  unfolding compartmentOf
-  past-add rights = past-answers words nx links gens t calls g (Add k a e rights) l
-
-  pub past-remove : (rights : ℕ) → Answers calls (Remove k a e rights) words nx links gens t words nx links gens (record { trackers = t; answer = Refused NoCompartment })
-  unfolding compartmentOf
-  past-remove rights = past-answers words nx links gens t calls g (Remove k a e rights) l
-
-  pub past-counts : Counts calls k a e words nx links gens t (Refused NoCompartment)
-  unfolding compartmentOf
-  past-counts = record { answered = past-answer words nx links gens t calls g (Refcount k a e) l; grown = past-grown words nx links gens t calls g (Refcount k a e) l }
-
-module _ (words nx links gens : List ℕ) (t : Trackers) (calls : List Call) (g : Grown words nx links gens t calls) (k : ℕ) (l : 8 ≤ k) where
-  pub past-permits : (from : ℕ) (out : List ℕ) → ReadsPermissions calls k from words nx links gens t out out (Refused NoCompartment)
-  unfolding compartmentOf
-  past-permits from out = record {
-    answered = past-answer words nx links gens t calls g (Permissions k from (length out)) l;
-    slice = sym (rw (le-ltb k 8 l));
-    grown = past-grown words nx links gens t calls g (Permissions k from (length out)) l;
-  }
+    pub count-answers : PoolAnswers calls (Refcount k a e) words nx links gens t words nx links gens (record { arena = t .arena; list = set (t .list) k (getD (t .list) k d) }) (Accepted n)
+    unfolding reckon
+    count-answers =
+        let same = untouched nx words links gens (t .arena) first (record { next = refl; words = refl; heap = refl; first = refl }) in
+        let s : after (calls ++ (Refcount k a e ∷ [])) ≡ after calls = after-snoc calls (Refcount k a e) ∙ next-read (after calls) (Refcount k a e) refl in
+        record {
+          answered = count-answer;
+          pooled = regrown nx words links gens (t .arena) first (calls ++ (Refcount k a e ∷ [])) (rw s (g .holds)) same;
+          kept = λ _. same;
+        }

@@ -7,7 +7,7 @@ use native.Mathlib.Omega.{arith}
 use native.Mathlib.Decide.{ℕ-discrete}
 use lib.ListN.{length, replicate}
 use lib.Dec.{eqb}
-use borrow.Author.Tests.{eqb-true}
+use borrow.Author.Tests.{eqb-true, eqb-false}
 use Rattle.free_list.specs.Stack.{upFrom}
 use Rattle.gen_arena.specs.Grown.{GrownArena, Creates as CreatesArena, createdIf, fresh}
 use Rattle.gen_arena.specs.declared.GenArena.{GenArena}
@@ -18,10 +18,12 @@ use Rattle.definitions.specs.Calls.{start, afterFrom, after}
 use Rattle.definitions.proofs.Tables.{noTable}
 use Rattle.definitions.proofs.TableLaws.{shown-empty}
 use Rattle.capability_engine.specs.declared.region.RegionTracker.{RegionTracker}
-use Rattle.capability_engine.specs.declared.compartments.Trackers.{Trackers}
+use Rattle.capability_engine.specs.declared.remapper.Remapper.{Remapper}
+use Rattle.capability_engine.specs.declared.compartments.Tables.{Tables}
 use Rattle.capability_engine.specs.PoolChain.{cnt, slots, records}
 use Rattle.capability_engine.specs.PoolOwn.{heap, freeOf}
-use Rattle.capability_engine.specs.CompartmentGrown.{Holding, Holds, inLists, allLong, Grown, Sized, Creates, noTrackers}
+use Rattle.capability_engine.specs.RemapHeld as remap
+use Rattle.capability_engine.specs.CompartmentGrown.{Holding, Holds, inLists, allLong, Trackers, trackersOf, Pooled, Remapped, Sized, Creates, noTrackers}
 use Rattle.capability_engine.proofs.PoolLinks.{slots-are, bit-same, bit-other}
 use Rattle.capability_engine.proofs.PoolHeaps.{free-is}
 
@@ -75,8 +77,8 @@ module _ (nx ws : List ℕ) (size : length nx ≡ 1025) (z : RegionTracker) (ez 
     free-all : freeOf (heap links gens arena) ≡ upFrom 0 1024
     free-all = free-is (heap links gens arena) [] g
 
-    grown-new : Grown ws nx links gens (record { arena = arena; list = replicate 8 z }) []
-    grown-new =
+    pooled-new : Pooled ws nx links gens (record { arena = arena; list = replicate 8 z }) []
+    pooled-new =
         record {
           nextSize = size;
           wordsSize = lw;
@@ -90,44 +92,61 @@ module _ (nx ws : List ℕ) (size : length nx ≡ 1025) (z : RegionTracker) (ez 
               omega (arith, long-none 8));
         }
 
--- eight trackers with nothing in their lists
+-- eight trackers with nothing in their lists, and eight remappers with no segment
 pub empty-trackers : (z : RegionTracker) → z .head ≡ 1024 → _≡_ {A = Trackers} (record { arena = fresh; list = replicate 8 z }) noTrackers
 empty-trackers z ez =
     let e : z ≡ record { head = 1024 } = λ i. record { head = ez i } in
     ap (λ (y : RegionTracker). record { arena = fresh; list = replicate 8 y }) e
 
--- refused: the slices are as they were
-pub not-made : (words nx links gens : List ℕ) (t : Trackers) → t ≡ noTrackers → (Sized words nx links gens → ⊥) → Creates words nx links gens links gens (record { trackers = t; done = false })
-not-made words nx links gens t e n =
-    record { empty = e; made = λ h. absurd (true≢false (sym h)); sized = λ s. absurd (n s); kept = λ _. (refl, refl) }
+bare-all : (m : Remapper) → remap.Holds m [] → (n : ℕ) → Remapped (replicate n m) (replicate n empty)
+unfolding empty
+bare-all m h zero = tt
+bare-all m h (suc n) = (h, bare-all m h n)
 
-module _ (words nx links gens links' gens' : List ℕ) (r : NewArena) (c : CreatesArena links links' gens gens' r) (lw : length words ≡ 8192) (ln : length nx ≡ 1025) (ll : length links ≡ 1024) (z : RegionTracker) (ez : z .head ≡ 1024) where
-  pub made-new : (arena : GenArena) → r ≡ Arena arena → Creates words nx links gens links' gens' (record { trackers = record { arena = arena; list = replicate 8 z }; done = true })
-  made-new arena e = go (eqb (length links) (length gens)) refl
+pub bare-remappers : (m : Remapper) → remap.Holds m [] → Remapped (replicate 8 m) start
+unfolding start
+bare-remappers m h = bare-all m h 8
+
+bare-grown : (m : Remapper) → remap.Holds m [] → Remapped (replicate 8 m) (after [])
+unfolding after afterFrom
+bare-grown m h = bare-remappers m h
+
+-- refused: the slices are as they were
+pub not-made : (words nx links gens : List ℕ) (t : Tables) → trackersOf t ≡ noTrackers → Remapped (t .remappers) start → (Sized words nx links gens → ⊥)
+    → Creates words nx links gens links gens (record { tables = t; done = false })
+not-made words nx links gens t e b n =
+    record { empty = e; bare = b; made = λ h. absurd (true≢false (sym h)); sized = λ s. absurd (n s); kept = λ _. (refl, refl) }
+
+module _ (words nx links gens links' gens' : List ℕ) (r : NewArena) (c : CreatesArena links links' gens gens' r) (ll : length links ≡ 1024) where
+  pub made-new : length words ≡ 8192 → length nx ≡ 1025 → (z : RegionTracker) → z .head ≡ 1024 → (m : Remapper) → remap.Holds m [] → (arena : GenArena) → r ≡ Arena arena
+      → Creates words nx links gens links' gens' (record { tables = record { arena = arena; trackers = replicate 8 z; remappers = replicate 8 m }; done = true })
+  made-new lw ln z ez m hm arena e = go (eqb (length links) (length gens)) refl
     where
-      go : (b : Bool) → eqb (length links) (length gens) ≡ b → Creates words nx links gens links' gens' (record { trackers = record { arena = arena; list = replicate 8 z }; done = true })
+      go : (b : Bool) → eqb (length links) (length gens) ≡ b → Creates words nx links gens links' gens' (record { tables = record { arena = arena; trackers = replicate 8 z; remappers = replicate 8 m }; done = true })
       go false d = absurd (let w : Arena arena ≡ Uneven = sym e ∙ c .answer ∙ ap createdIf d in let y : _≡_ {A = ℕ} 0 1 = cc in omega arith)
       go true d =
           let w : Arena arena ≡ Arena fresh = sym e ∙ c .answer ∙ ap createdIf d in
           let ea : arena ≡ fresh = cc in
           let g : GrownArena 1024 links' gens' fresh [] = rw ll at (c .grown (eqb-true (length links) (length gens) d)) in
           record {
-            empty = ap (λ (a : GenArena). record { arena = a; list = replicate 8 z }) ea ∙ empty-trackers z ez;
-            made = λ _. grown-new nx words ln z ez links' gens' arena (rw ea g) lw;
+            empty = rw ea (empty-trackers z ez);
+            bare = bare-remappers m hm;
+            made = λ _. record { pooled = pooled-new nx words ln z ez links' gens' arena (rw ea g) lw; remapped = bare-grown m hm };
             sized = λ _. refl;
             kept = λ h. absurd (true≢false h);
           }
 
-  pub not-even : (t : Trackers) → t ≡ noTrackers → r ≡ Uneven → Creates words nx links gens links' gens' (record { trackers = t; done = false })
-  not-even t et e = go (eqb (length links) (length gens)) refl
+  pub not-even : (t : Tables) → trackersOf t ≡ noTrackers → Remapped (t .remappers) start → r ≡ Uneven → Creates words nx links gens links' gens' (record { tables = t; done = false })
+  not-even t et b e = go (eqb (length links) (length gens)) refl
     where
-      go : (b : Bool) → eqb (length links) (length gens) ≡ b → Creates words nx links gens links' gens' (record { trackers = t; done = false })
+      go : (b : Bool) → eqb (length links) (length gens) ≡ b → Creates words nx links gens links' gens' (record { tables = t; done = false })
       go true d = absurd (let w : Uneven ≡ Arena fresh = sym e ∙ c .answer ∙ ap createdIf d in let y : _≡_ {A = ℕ} 0 1 = cc in omega arith)
       go false d =
-          let n : length links ≡ length gens → ⊥ = borrow.Author.Tests.eqb-false (length links) (length gens) d in
+          let n : length links ≡ length gens → ⊥ = eqb-false (length links) (length gens) d in
           let k = c .kept n in
           record {
             empty = et;
+            bare = b;
             made = λ h. absurd (true≢false (sym h));
             sized = λ s. absurd (n (ll ∙ sym (s .3)));
             kept = λ _. (k .sameLinks, k .sameGens);

@@ -13,8 +13,6 @@ pub mod RegionApplies
 pub mod RegionSteps
 pub mod RegionAnswers
 pub mod RegionTracks
-pub mod CompartmentLaws
-pub mod CompartmentNew
 pub mod StreamLists
 pub mod StreamMerged
 pub mod StreamFlows
@@ -24,6 +22,7 @@ pub mod StreamTurns
 pub mod StreamStarts
 pub mod StreamLeaves
 pub mod StreamFills
+pub mod StreamWalks
 pub mod StreamCosts
 pub mod RemapLaws
 pub mod RemapPlaces
@@ -32,3 +31,11 @@ pub mod RemapWalks
 pub mod RemapCalls
 pub mod RemapGuests
 pub mod RemapCopies
+pub mod CompartmentLaws
+pub mod CompartmentArms
+pub mod CompartmentFacts
+pub mod CompartmentReads
+pub mod CompartmentCalls
+pub mod CompartmentNew
+pub mod WholeStream
+pub mod Promised

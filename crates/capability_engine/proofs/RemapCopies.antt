@@ -8,11 +8,12 @@ use native.Mathlib.Nat.{add-zero, add-suc, suc-add}
 use native.Mathlib.Numerals.{add-one}
 use lib.ListN.{getD, length, set, length-set}
 use lib.Seq.{sets, length-sets, getD-set-same, getD-set-other}
+use Rattle.definitions.specs.Pages.{segmentGroup}
 use Rattle.definitions.specs.declared.remapper.Segment.{Segment}
 use Rattle.capability_engine.specs.declared.remapper.Remapper.{Remapper}
 use Rattle.capability_engine.specs.declared.remapper.NextSegment.the-variants.{At, End}
 use Rattle.capability_engine.specs.RemapHeld.{Holds, ahead}
-use Rattle.capability_engine.specs.RemapListing.{Some, Comes, wordsOf, Copied}
+use Rattle.capability_engine.specs.RemapListing.{Some, Comes, Copied}
 use Rattle.capability_engine.specs.SegmentWords.{segmentAt, segmentsFrom}
 use Rattle.capability_engine.proofs.RemapPlaces.{zip-small}
 use Rattle.capability_engine.proofs.RemapWalks.{segment-at, next-of, Open, some-start, some-end, some-open, some-less}
@@ -42,21 +43,21 @@ sets-in (v ∷ vs) ws b (suc d) l f =
     rw (add-suc b d, ← suc-add b d) (sets-in vs (set ws b v) (suc b) d (omega arith) (simp length-set (omega arith)))
 
 module _ (out : List ℕ) (n : ℕ) (s : Segment) where
-  near : (d : ℕ) → d < 4 → 4 * n + 4 ≤ length out → getD (sets out (4 * n) (wordsOf s)) (4 * n + d) 0 ≡ getD (wordsOf s) d 0
-  unfolding wordsOf
-  near d l f = sets-in (wordsOf s) out (4 * n) d l f
+  near : (d : ℕ) → d < 4 → 4 * n + 4 ≤ length out → getD (sets out (4 * n) (segmentGroup s)) (4 * n + d) 0 ≡ getD (segmentGroup s) d 0
+  unfolding segmentGroup
+  near d l f = sets-in (segmentGroup s) out (4 * n) d l f
 
-  far : (i d : ℕ) → i < n → d < 4 → getD (sets out (4 * n) (wordsOf s)) (4 * i + d) 0 ≡ getD out (4 * i + d) 0
-  far i d l k = sets-out (wordsOf s) out (4 * n) (4 * i + d) (inl (omega arith))
+  far : (i d : ℕ) → i < n → d < 4 → getD (sets out (4 * n) (segmentGroup s)) (4 * i + d) 0 ≡ getD out (4 * i + d) 0
+  far i d l k = sets-out (segmentGroup s) out (4 * n) (4 * i + d) (inl (omega arith))
 
-  near-first : 4 * n + 4 ≤ length out → getD (sets out (4 * n) (wordsOf s)) (4 * n) 0 ≡ getD (wordsOf s) 0 0
+  near-first : 4 * n + 4 ≤ length out → getD (sets out (4 * n) (segmentGroup s)) (4 * n) 0 ≡ getD (segmentGroup s) 0 0
   near-first f = simp add-zero at (near 0 (omega arith) f)
 
-  far-first : (i : ℕ) → i < n → getD (sets out (4 * n) (wordsOf s)) (4 * i) 0 ≡ getD out (4 * i) 0
+  far-first : (i : ℕ) → i < n → getD (sets out (4 * n) (segmentGroup s)) (4 * i) 0 ≡ getD out (4 * i) 0
   far-first i l = simp add-zero at (far i 0 l (omega arith))
 
-  at-new : 4 * n + 4 ≤ length out → segmentAt (sets out (4 * n) (wordsOf s)) n ≡ s
-  unfolding wordsOf
+  at-new : 4 * n + 4 ≤ length out → segmentAt (sets out (4 * n) (segmentGroup s)) n ≡ s
+  unfolding segmentGroup
   at-new f = λ k. record {
     hpa = record { 0 = near-first f k };
     gpa = record { 0 = near 1 (omega arith) f k };
@@ -64,7 +65,7 @@ module _ (out : List ℕ) (n : ℕ) (s : Segment) where
     repeat = near 3 (omega arith) f k;
   }
 
-  at-old : (i : ℕ) → i < n → segmentAt (sets out (4 * n) (wordsOf s)) i ≡ segmentAt out i
+  at-old : (i : ℕ) → i < n → segmentAt (sets out (4 * n) (segmentGroup s)) i ≡ segmentAt out i
   at-old i l = λ k. record {
     hpa = record { 0 = far-first i l k };
     gpa = record { 0 = far i 1 l (omega arith) k };
@@ -72,7 +73,7 @@ module _ (out : List ℕ) (n : ℕ) (s : Segment) where
     repeat = far i 3 l (omega arith) k;
   }
 
-  old : (i k : ℕ) → i + k ≤ n → segmentsFrom (sets out (4 * n) (wordsOf s)) i k ≡ segmentsFrom out i k
+  old : (i k : ℕ) → i + k ≤ n → segmentsFrom (sets out (4 * n) (segmentGroup s)) i k ≡ segmentsFrom out i k
   old i zero l = refl
   old i (suc k) l = ap₂ (λ (x : Segment) (y : List Segment). x ∷ y) (at-old i (omega arith)) (old (suc i) k (omega arith))
 
@@ -82,11 +83,11 @@ snoc out i (suc k) =
     let e : i + suc k ≡ suc i + k = omega arith in
     rw e (ap (λ (l : List Segment). segmentAt out i ∷ l) (snoc out (suc i) k))
 
-one-more : (out : List ℕ) (n : ℕ) (s : Segment) → 4 * n + 4 ≤ length out → segmentsFrom (sets out (4 * n) (wordsOf s)) 0 (n + 1) ≡ segmentsFrom out 0 n ++ (s ∷ [])
+one-more : (out : List ℕ) (n : ℕ) (s : Segment) → 4 * n + 4 ≤ length out → segmentsFrom (sets out (4 * n) (segmentGroup s)) 0 (n + 1) ≡ segmentsFrom out 0 n ++ (s ∷ [])
 one-more out n s f =
     let e : 0 + n ≡ n = omega arith in
     rw (add-one n)
-    (snoc (sets out (4 * n) (wordsOf s)) 0 n
+    (snoc (sets out (4 * n) (segmentGroup s)) 0 n
     ∙ ap₂ (λ (x : List Segment) (y : Segment). x ++ (y ∷ [])) (old out n s 0 n (omega arith)) (rw e (at-new out n s f)))
 
 -- ---- the loop: n segments are copied, and those from slot at on are to come
@@ -126,7 +127,7 @@ module _ (r : Remapper) (ss : List Segment) (before now : List ℕ) (at n : ℕ)
     pub copying-less : ahead (r .links) (next-of r at) < ahead (r .links) at
     copying-less = some-less r at (g .left) (g .rest) l
 
-    pub copying-more : (next : List ℕ) → next ≡ sets now (4 * n) (wordsOf (segment-at r at)) → Copying r ss before next (next-of r at) (n + 1)
+    pub copying-more : (next : List ℕ) → next ≡ sets now (4 * n) (segmentGroup (segment-at r at)) → Copying r ss before next (next-of r at) (n + 1)
     copying-more next e =
         let x : Segment = segment-at r at in
         let us : List Segment = opened .more in
@@ -139,7 +140,7 @@ module _ (r : Remapper) (ss : List Segment) (before now : List ℕ) (at n : ℕ)
           same = ap (λ (z : List Segment). z ++ us) (one-more now n x copying-fits)
               ∙ append-assoc (segmentsFrom now 0 n) (x ∷ []) us
               ∙ ap (λ (z : List Segment). segmentsFrom now 0 n ++ z) (sym (opened .are)) ∙ g .same;
-          size = length-sets now (4 * n) (wordsOf x) ∙ g .size;
+          size = length-sets now (4 * n) (segmentGroup x) ∙ g .size;
           room = g .room;
         })
 

@@ -8,9 +8,10 @@ use native.Mathlib.Numerals.{add-one}
 use lib.ListN.{length, take, drop, length-append, length-drop, length-map, drop-of-length-le}
 use lib.Seq.{sets, sets-eq, take-at, drop-drop, drop-append-add, take-all, length-take-le}
 use Rattle.definitions.specs.Tests.{each}
-use Rattle.definitions.specs.Pages.{page, filled, mappingGroup, permissionGroup}
+use Rattle.definitions.specs.Pages.{page, filled, mappingGroup, permissionGroup, regionGroup, segmentGroup}
 use Rattle.definitions.specs.declared.region.Region.{Region}
 use Rattle.definitions.specs.declared.remapper.Mapping.{Mapping}
+use Rattle.definitions.specs.declared.remapper.Segment.{Segment}
 use Rattle.definitions.specs.Regions.{permissionOf}
 use Rattle.definitions.proofs.PageLaws.{Wide, wide-map}
 use Rattle.capability_engine.specs.StreamPage.{Filled, written}
@@ -142,7 +143,7 @@ pub from-at : {A : Type 0} (w : ℕ) (f : A → List ℕ) (xs ys : List A) (k : 
     → Filled w (map f ys) 0 before after r → Filled w (map f xs) k before after r
 from-at w f xs ys k before after r e g = filled-from w (map f xs) (map f ys) k before after r (ap (map f) e ∙ map-drop f k xs) g
 
--- the two widths
+-- the widths
 pub five : (m : Mapping) → length (mappingGroup m) ≡ 5
 unfolding mappingGroup
 five m = refl
@@ -150,3 +151,10 @@ five m = refl
 pub three : (r : Region) → length (permissionGroup (permissionOf r)) ≡ 3
 unfolding permissionGroup
 three r = refl
+
+pub eight : (r : Region) → length (regionGroup r) ≡ 8
+eight r = refl
+
+pub four : (s : Segment) → length (segmentGroup s) ≡ 4
+unfolding segmentGroup
+four s = refl

@@ -4,7 +4,7 @@ use mathlib.Core.Path.{_≡_, refl, ap}
 use mathlib.Core.List.{List, [], _∷_, map}
 use native.Mathlib.Omega.{arith}
 use native.Mathlib.Numerals.{add-one}
-use lib.ListN.{getD, length, length-map}
+use lib.ListN.{getD, drop, length, length-map}
 use Rattle.definitions.proofs.Lists.{Ordered}
 use Rattle.definitions.proofs.RegionLaws.{ordered-from}
 use Rattle.definitions.proofs.SegmentLaws.{Good, AllGood}
@@ -62,6 +62,17 @@ segments-none sg i n l = let e : n - i ≡ 0 = omega arith in rw e
 pub segments-length : (sg : List ℕ) (i k : ℕ) → length (segmentsFrom sg i k) ≡ k
 segments-length sg i zero = refl
 segments-length sg i (suc k) = ap suc (segments-length sg (suc i) k)
+
+drop-from : (sg : List ℕ) (i k n : ℕ) → segmentsFrom sg (i + k) (n - k) ≡ drop k (segmentsFrom sg i n)
+drop-from sg i zero n = let e : i + 0 ≡ i = omega arith in let d : n - 0 ≡ n = omega arith in rw (e, d)
+drop-from sg i (suc k) zero = let d : 0 - suc k ≡ 0 = omega arith in rw d
+drop-from sg i (suc k) (suc n) =
+    let e : i + suc k ≡ suc i + k = omega arith in
+    let d : suc n - suc k ≡ n - k = omega arith in
+    rw (e, d) (drop-from sg (suc i) k n)
+
+pub segments-drop : (sg : List ℕ) (k n : ℕ) → segmentsFrom sg k (n - k) ≡ drop k (segmentsFrom sg 0 n)
+segments-drop sg k n = let e : 0 + k ≡ k = omega arith in rw e at (drop-from sg 0 k n)
 
 good-from : (sg : List ℕ) (j k i : ℕ) → AllGood (segmentsFrom sg j k) → i < k → Good (segmentAt sg (j + i))
 good-from sg j zero i g l = absurd (omega arith)

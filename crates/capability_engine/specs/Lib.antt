@@ -4,7 +4,6 @@ pub mod PoolChain
 pub mod PoolOwn
 pub mod RegionPasses
 pub mod RegionAsks
-pub mod CompartmentGrown
 pub mod StreamFlow
 pub mod StreamCursor
 pub mod StreamPage
@@ -12,3 +11,6 @@ pub mod RemapHeld
 pub mod RemapAsking
 pub mod RemapAnswers
 pub mod RemapListing
+pub mod CompartmentGrown
+pub mod CompartmentSteps
+pub mod WholeStream

@@ -35,10 +35,6 @@ Comes r (s ∷ ts) n = (d : RemapperSegmentIterator) × (n ≡ At s d) × Ahead 
 abbrev pub Steps : Remapper → RemapperSegmentIterator → NextSegment → Type 0
 Steps r c n = (ts : List Segment) → Ahead r c ts → Comes r ts n
 
--- a segment as four numbers
-unfoldable pub wordsOf : Segment → List ℕ
-wordsOf s = s .hpa .0 ∷ s .gpa .0 ∷ s .size ∷ s .repeat ∷ []
-
 -- the slice holds the segments, in order, and its length is as it was
 pub record Copied (ss : List Segment) (before after : List ℕ) (n : ℕ) : Type 0 where
   pub many : n ≡ length ss

@@ -1,62 +1,218 @@
 // The eight compartments over one pool, and the calls on them. The pool is lent as four slices (see region.rt), all of which
 // new checks; what was grown from there is what every other call asks for.
+use crate::region::Changed as RegionChanged;
 use crate::region::RegionTracker;
-use crate::stream::permissions;
+use crate::remapper::Changed as SegmentChanged;
+use crate::remapper::Remapper;
+use crate::stream;
 use definitions::Answer;
+use definitions::Call;
+use definitions::GuestAddr;
 use definitions::HostAddr;
 use definitions::Refusal;
 use free_list::FreeList;
 use gen_arena::Created as NewArena;
 use gen_arena::GenArena;
+ghost use mathlib.Core.Path.{_≡_};
+ghost use mathlib.Core.Bool.{true};
 ghost use mathlib.Core.List.{List};
+ghost use lib.ListN.{length};
+ghost use Rattle.definitions.specs.Calls.{streamGroups, permissionGroups, regionGroups, segmentGroups};
 ghost use Rattle.definitions.specs.declared.call.Call.{Call};
-ghost use Rattle.capability_engine.specs.CompartmentGrown.{Grown, IsGrown, Creates, Adds, Removes, Counts, ReadsPermissions};
+ghost use Rattle.definitions.specs.declared.call.Call.the-variants.{Add, Remove, Refcount, Overlaps, Map, Unmap, UnmapGpa, Permissions, Remap};
+ghost use Rattle.capability_engine.specs.PoolOwn.{heap};
+ghost use Rattle.capability_engine.specs.RegionAsks.{Tracked};
+ghost use Rattle.capability_engine.specs.RemapHeld.{IsHeld};
+ghost use Rattle.capability_engine.specs.CompartmentGrown.{Grown, IsGrown, Creates, Answers, Reads, ReadsPage, ReadsList};
+ghost use Rattle.capability_engine.specs.CompartmentSteps.{onRegions, onSegments, OnRegions, OnSegments};
 
-pub struct Trackers {
+// One tracker and one remapper for each compartment, and the arena of the pool's slots.
+pub struct Tables {
     pub arena: GenArena,
-    pub list: [RegionTracker; 8],
+    pub trackers: [RegionTracker; 8],
+    pub remappers: [Remapper; 8],
 }
 
 // What new makes, and whether the slices have the lengths that it asks for.
 pub struct Created {
-    pub trackers: Trackers,
+    pub tables: Tables,
     pub done: bool,
 }
 
-// What a call leaves of the trackers, and its answer.
+// What a call leaves of the tables, and its answer.
 pub struct Outcome {
-    pub trackers: Trackers,
+    pub tables: Tables,
     pub answer: Answer,
 }
 
-impl Trackers {
+// A call on the regions of one compartment: its tracker goes in and comes back. Any other call leaves it as it is.
+pub(crate) fn on_regions(
+    call: Call,
+    tracker: RegionTracker,
+    arena: GenArena,
+    words: &mut [u64],
+    next: &mut [usize],
+    links: &mut [usize],
+    gens: &mut [u64],
+) -> RegionChanged
+    requires { ⌜ Tracked (now next) (now words) (heap (now links) (now gens) arena) (tracker .head) ⌝ }
+    ensures { λ r. ⌜ OnRegions call tracker arena (now (words .entry)) (now (next .entry)) (now (links .entry)) (now (gens .entry)) (now (words .exit)) (now (next .exit)) (now (links .exit)) (now (gens .exit)) r ⌝ }
+{
+    match call {
+        Call::Add(_, start, end, rights) => {
+            tracker.add_region(next, words, links, gens, arena, start, end, rights)
+        }
+        Call::Remove(_, start, end, rights) => {
+            tracker.remove_region(next, words, links, gens, arena, start, end, rights)
+        }
+        Call::Refcount(_, start, end) => {
+            let many = tracker.get_refcount(next, words, start, end);
+            RegionChanged {
+                tracker,
+                arena,
+                answer: Answer::Accepted(many),
+            }
+        }
+        _ => RegionChanged {
+            tracker,
+            arena,
+            answer: Answer::Accepted(0),
+        },
+    }
+}
+
+// A call that changes the segments of one compartment: its remapper goes in and comes back. Any other leaves it as it is.
+pub(crate) fn on_segments(call: Call, remapper: Remapper) -> SegmentChanged
+    requires { ⌜ IsHeld remapper ⌝ }
+    ensures { λ r. ⌜ OnSegments call remapper r ⌝ }
+{
+    match call {
+        Call::Map(_, hpa, gpa, size, repeat) => remapper.map_range(hpa, gpa, size, repeat),
+        Call::Unmap(_, hpa, size) => remapper.unmap_range(hpa, size),
+        Call::UnmapGpa(_, gpa, size) => remapper.unmap_gpa_range(gpa, size),
+        _ => SegmentChanged {
+            answer: Answer::Accepted(0),
+            remapper,
+        },
+    }
+}
+
+impl Tables {
     // Eight empty compartments over a pool of free slots. Refused, with the slices as they were, where one has another length.
     pub fn new(words: &[u64], next: &[usize], links: &mut [usize], gens: &mut [u64]) -> Created
         ensures { λ r. ⌜ Creates (now (words .entry)) (now (next .entry)) (now (links .entry)) (now (gens .entry)) (now (links .exit)) (now (gens .exit)) r ⌝ }
     {
-        let empty = RegionTracker::new();
+        let tracker = RegionTracker::new();
+        let remapper = Remapper::new();
+        let trackers = [tracker; 8];
+        let remappers = [remapper; 8];
         let free_list = FreeList { head: 0, count: 0 };
         let none = GenArena { free_list };
-        let list = [empty; 8];
-        let nothing = Created {
-            trackers: Trackers { arena: none, list },
+        let made = Created {
+            tables: Tables {
+                arena: none,
+                trackers,
+                remappers,
+            },
             done: false,
         };
         if words.len() != 8192 {
-            return nothing;
+            return made;
         }
         if next.len() != 1025 {
-            return nothing;
+            return made;
         }
         if links.len() != 1024 {
-            return nothing;
+            return made;
         }
         match GenArena::new(links, gens) {
             NewArena::Arena(arena) => Created {
-                trackers: Trackers { arena, list },
+                tables: Tables {
+                    arena,
+                    trackers,
+                    remappers,
+                },
                 done: true,
             },
-            NewArena::Uneven => nothing,
+            NewArena::Uneven => made,
+        }
+    }
+
+    // A call on the regions of the compartment that it names.
+    fn change_regions(
+        self,
+        call: Call,
+        words: &mut [u64],
+        next: &mut [usize],
+        links: &mut [usize],
+        gens: &mut [u64],
+    ) -> Outcome
+        requires { ⌜ IsGrown (now words) (now next) (now links) (now gens) self ⌝ }
+        requires { ⌜ onRegions call ≡ true ⌝ }
+        ensures { λ r. ⌜ ((calls : List Call) → Grown (now (words .entry)) (now (next .entry)) (now (links .entry)) (now (gens .entry)) self calls → Answers calls call (now (words .entry)) (now (next .entry)) (now (links .entry)) (now (gens .entry)) self (now (words .exit)) (now (next .exit)) (now (links .exit)) (now (gens .exit)) r) ⌝ }
+    {
+        let compartment = call.compartment();
+        if 8 <= compartment {
+            return Outcome {
+                tables: self,
+                answer: Answer::Refused(Refusal::NoCompartment),
+            };
+        }
+        let k = compartment as usize;
+        let mut trackers = self.trackers;
+        let tracker = trackers[k];
+        let r = on_regions(call, tracker, self.arena, words, next, links, gens);
+        let changed = r.tracker;
+        trackers[k] = changed;
+        let arena = r.arena;
+        let remappers = self.remappers;
+        let answer = r.answer;
+        Outcome {
+            tables: Tables {
+                arena,
+                trackers,
+                remappers,
+            },
+            answer,
+        }
+    }
+
+    // A call that changes the segments of the compartment that it names.
+    fn change_segments(
+        self,
+        call: Call,
+        words: &[u64],
+        next: &[usize],
+        links: &[usize],
+        gens: &[u64],
+    ) -> Outcome
+        requires { ⌜ IsGrown (now words) (now next) (now links) (now gens) self ⌝ }
+        requires { ⌜ onSegments call ≡ true ⌝ }
+        ensures { λ r. ⌜ ((calls : List Call) → Grown (now (words .entry)) (now (next .entry)) (now (links .entry)) (now (gens .entry)) self calls → Answers calls call (now (words .entry)) (now (next .entry)) (now (links .entry)) (now (gens .entry)) self (now (words .entry)) (now (next .entry)) (now (links .entry)) (now (gens .entry)) r) ⌝ }
+    {
+        let compartment = call.compartment();
+        if 8 <= compartment {
+            return Outcome {
+                tables: self,
+                answer: Answer::Refused(Refusal::NoCompartment),
+            };
+        }
+        let k = compartment as usize;
+        let mut remappers = self.remappers;
+        let remapper = remappers[k];
+        let r = on_segments(call, remapper);
+        let changed = r.remapper;
+        remappers[k] = changed;
+        let arena = self.arena;
+        let trackers = self.trackers;
+        let answer = r.answer;
+        Outcome {
+            tables: Tables {
+                arena,
+                trackers,
+                remappers,
+            },
+            answer,
         }
     }
 
@@ -73,27 +229,10 @@ impl Trackers {
         gens: &mut [u64],
     ) -> Outcome
         requires { ⌜ IsGrown (now words) (now next) (now links) (now gens) self ⌝ }
-        ensures { λ r. ⌜ ((calls : List Call) → Grown (now (words .entry)) (now (next .entry)) (now (links .entry)) (now (gens .entry)) self calls → Adds calls compartment start end rights (now (words .entry)) (now (next .entry)) (now (links .entry)) (now (gens .entry)) self (now (words .exit)) (now (next .exit)) (now (links .exit)) (now (gens .exit)) r) ⌝ }
+        ensures { λ r. ⌜ ((calls : List Call) → Grown (now (words .entry)) (now (next .entry)) (now (links .entry)) (now (gens .entry)) self calls → Answers calls (Add compartment start end rights) (now (words .entry)) (now (next .entry)) (now (links .entry)) (now (gens .entry)) self (now (words .exit)) (now (next .exit)) (now (links .exit)) (now (gens .exit)) r) ⌝ }
     {
-        if 8 <= compartment {
-            return Outcome {
-                trackers: self,
-                answer: Answer::Refused(Refusal::NoCompartment),
-            };
-        }
-        let k = compartment as usize;
-        let mut list = self.list;
-        let tracker = list[k];
-        let arena = self.arena;
-        let r = tracker.add_region(next, words, links, gens, arena, start, end, rights);
-        let changed = r.tracker;
-        list[k] = changed;
-        let left = r.arena;
-        let answer = r.answer;
-        Outcome {
-            trackers: Trackers { arena: left, list },
-            answer,
-        }
+        let call = Call::Add(compartment, start, end, rights);
+        self.change_regions(call, words, next, links, gens)
     }
 
     // Removes a range from a compartment.
@@ -109,27 +248,66 @@ impl Trackers {
         gens: &mut [u64],
     ) -> Outcome
         requires { ⌜ IsGrown (now words) (now next) (now links) (now gens) self ⌝ }
-        ensures { λ r. ⌜ ((calls : List Call) → Grown (now (words .entry)) (now (next .entry)) (now (links .entry)) (now (gens .entry)) self calls → Removes calls compartment start end rights (now (words .entry)) (now (next .entry)) (now (links .entry)) (now (gens .entry)) self (now (words .exit)) (now (next .exit)) (now (links .exit)) (now (gens .exit)) r) ⌝ }
+        ensures { λ r. ⌜ ((calls : List Call) → Grown (now (words .entry)) (now (next .entry)) (now (links .entry)) (now (gens .entry)) self calls → Answers calls (Remove compartment start end rights) (now (words .entry)) (now (next .entry)) (now (links .entry)) (now (gens .entry)) self (now (words .exit)) (now (next .exit)) (now (links .exit)) (now (gens .exit)) r) ⌝ }
     {
-        if 8 <= compartment {
-            return Outcome {
-                trackers: self,
-                answer: Answer::Refused(Refusal::NoCompartment),
-            };
-        }
-        let k = compartment as usize;
-        let mut list = self.list;
-        let tracker = list[k];
-        let arena = self.arena;
-        let r = tracker.remove_region(next, words, links, gens, arena, start, end, rights);
-        let changed = r.tracker;
-        list[k] = changed;
-        let left = r.arena;
-        let answer = r.answer;
-        Outcome {
-            trackers: Trackers { arena: left, list },
-            answer,
-        }
+        let call = Call::Remove(compartment, start, end, rights);
+        self.change_regions(call, words, next, links, gens)
+    }
+
+    // Maps host addresses of a compartment to guest addresses.
+    pub fn map(
+        self,
+        compartment: u64,
+        hpa: HostAddr,
+        gpa: GuestAddr,
+        size: u64,
+        repeat: u64,
+        words: &[u64],
+        next: &[usize],
+        links: &[usize],
+        gens: &[u64],
+    ) -> Outcome
+        requires { ⌜ IsGrown (now words) (now next) (now links) (now gens) self ⌝ }
+        ensures { λ r. ⌜ ((calls : List Call) → Grown (now (words .entry)) (now (next .entry)) (now (links .entry)) (now (gens .entry)) self calls → Answers calls (Map compartment hpa gpa size repeat) (now (words .entry)) (now (next .entry)) (now (links .entry)) (now (gens .entry)) self (now (words .entry)) (now (next .entry)) (now (links .entry)) (now (gens .entry)) r) ⌝ }
+    {
+        let call = Call::Map(compartment, hpa, gpa, size, repeat);
+        self.change_segments(call, words, next, links, gens)
+    }
+
+    // Unmaps a range of host addresses of a compartment.
+    pub fn unmap_range(
+        self,
+        compartment: u64,
+        hpa: HostAddr,
+        size: u64,
+        words: &[u64],
+        next: &[usize],
+        links: &[usize],
+        gens: &[u64],
+    ) -> Outcome
+        requires { ⌜ IsGrown (now words) (now next) (now links) (now gens) self ⌝ }
+        ensures { λ r. ⌜ ((calls : List Call) → Grown (now (words .entry)) (now (next .entry)) (now (links .entry)) (now (gens .entry)) self calls → Answers calls (Unmap compartment hpa size) (now (words .entry)) (now (next .entry)) (now (links .entry)) (now (gens .entry)) self (now (words .entry)) (now (next .entry)) (now (links .entry)) (now (gens .entry)) r) ⌝ }
+    {
+        let call = Call::Unmap(compartment, hpa, size);
+        self.change_segments(call, words, next, links, gens)
+    }
+
+    // Unmaps a range of guest addresses of a compartment.
+    pub fn unmap_gpa_range(
+        self,
+        compartment: u64,
+        gpa: GuestAddr,
+        size: u64,
+        words: &[u64],
+        next: &[usize],
+        links: &[usize],
+        gens: &[u64],
+    ) -> Outcome
+        requires { ⌜ IsGrown (now words) (now next) (now links) (now gens) self ⌝ }
+        ensures { λ r. ⌜ ((calls : List Call) → Grown (now (words .entry)) (now (next .entry)) (now (links .entry)) (now (gens .entry)) self calls → Answers calls (UnmapGpa compartment gpa size) (now (words .entry)) (now (next .entry)) (now (links .entry)) (now (gens .entry)) self (now (words .entry)) (now (next .entry)) (now (links .entry)) (now (gens .entry)) r) ⌝ }
+    {
+        let call = Call::UnmapGpa(compartment, gpa, size);
+        self.change_segments(call, words, next, links, gens)
     }
 
     // The most holders in a range of a compartment.
@@ -144,15 +322,38 @@ impl Trackers {
         gens: &[u64],
     ) -> Answer
         requires { ⌜ IsGrown (now words) (now next) (now links) (now gens) self ⌝ }
-        ensures { λ r. ⌜ ((calls : List Call) → Grown (now (words .entry)) (now (next .entry)) (now (links .entry)) (now (gens .entry)) self calls → Counts calls compartment start end (now (words .entry)) (now (next .entry)) (now (links .entry)) (now (gens .entry)) self r) ⌝ }
+        ensures { λ r. ⌜ ((calls : List Call) → Grown (now (words .entry)) (now (next .entry)) (now (links .entry)) (now (gens .entry)) self calls → Reads calls (Refcount compartment start end) (now (words .entry)) (now (next .entry)) (now (links .entry)) (now (gens .entry)) self r) ⌝ }
     {
         if 8 <= compartment {
             return Answer::Refused(Refusal::NoCompartment);
         }
         let k = compartment as usize;
-        let list = self.list;
-        let tracker = list[k];
+        let trackers = self.trackers;
+        let tracker = trackers[k];
         Answer::Accepted(tracker.get_refcount(next, words, start, end))
+    }
+
+    // Does a range of guest addresses overlap a segment of a compartment, as the Rust asks it?
+    pub fn overlaps(
+        self,
+        compartment: u64,
+        start: GuestAddr,
+        size: u64,
+        words: &[u64],
+        next: &[usize],
+        links: &[usize],
+        gens: &[u64],
+    ) -> Answer
+        requires { ⌜ IsGrown (now words) (now next) (now links) (now gens) self ⌝ }
+        ensures { λ r. ⌜ ((calls : List Call) → Grown (now (words .entry)) (now (next .entry)) (now (links .entry)) (now (gens .entry)) self calls → Reads calls (Overlaps compartment start size) (now (words .entry)) (now (next .entry)) (now (links .entry)) (now (gens .entry)) self r) ⌝ }
+    {
+        if 8 <= compartment {
+            return Answer::Refused(Refusal::NoCompartment);
+        }
+        let k = compartment as usize;
+        let remappers = self.remappers;
+        let remapper = remappers[k];
+        remapper.overlaps(start, size)
     }
 
     // A page of a compartment's permissions: from the from-th on, as many whole groups of start, end and rights as out takes.
@@ -167,15 +368,93 @@ impl Trackers {
         gens: &[u64],
     ) -> Answer
         requires { ⌜ IsGrown (now words) (now next) (now links) (now gens) self ⌝ }
-        ensures { λ r. ⌜ ((calls : List Call) → Grown (now (words .entry)) (now (next .entry)) (now (links .entry)) (now (gens .entry)) self calls → ReadsPermissions calls compartment from (now (words .entry)) (now (next .entry)) (now (links .entry)) (now (gens .entry)) self (now (out .entry)) (now (out .exit)) r) ⌝ }
+        ensures { λ r. ⌜ ((calls : List Call) → Grown (now (words .entry)) (now (next .entry)) (now (links .entry)) (now (gens .entry)) self calls → ReadsPage 3 permissionGroups from calls (Permissions compartment from (length (now (out .entry)))) (now (words .entry)) (now (next .entry)) (now (links .entry)) (now (gens .entry)) self (now (out .entry)) (now (out .exit)) r) ⌝ }
     {
         if 8 <= compartment {
             return Answer::Refused(Refusal::NoCompartment);
         }
         let k = compartment as usize;
-        let list = self.list;
-        let tracker = list[k];
-        let many = permissions(next, words, tracker.head, from, out);
+        let trackers = self.trackers;
+        let tracker = trackers[k];
+        let many = stream::permissions(next, words, tracker.head, from, out);
+        Answer::Accepted(many as u64)
+    }
+
+    // A page of a compartment's stream: from the from-th mapping on, as many whole groups of five numbers as out takes.
+    pub fn stream(
+        self,
+        compartment: u64,
+        from: usize,
+        out: &mut [u64],
+        words: &[u64],
+        next: &[usize],
+        links: &[usize],
+        gens: &[u64],
+    ) -> Answer
+        requires { ⌜ IsGrown (now words) (now next) (now links) (now gens) self ⌝ }
+        ensures { λ r. ⌜ ((calls : List Call) → Grown (now (words .entry)) (now (next .entry)) (now (links .entry)) (now (gens .entry)) self calls → ReadsPage 5 streamGroups from calls (Remap compartment from (length (now (out .entry)))) (now (words .entry)) (now (next .entry)) (now (links .entry)) (now (gens .entry)) self (now (out .entry)) (now (out .exit)) r) ⌝ }
+    {
+        if 8 <= compartment {
+            return Answer::Refused(Refusal::NoCompartment);
+        }
+        let k = compartment as usize;
+        let trackers = self.trackers;
+        let tracker = trackers[k];
+        let remappers = self.remappers;
+        let remapper = remappers[k];
+        let mut segments = [0u64; 256];
+        let n = remapper.copy_segments(&mut segments);
+        let many = stream::page(next, words, &segments, n, tracker.head, from, out);
+        Answer::Accepted(many as u64)
+    }
+
+    // A page of a compartment's stored regions, with all six values: groups of eight numbers.
+    pub fn regions(
+        self,
+        compartment: u64,
+        from: usize,
+        out: &mut [u64],
+        words: &[u64],
+        next: &[usize],
+        links: &[usize],
+        gens: &[u64],
+    ) -> Answer
+        requires { ⌜ IsGrown (now words) (now next) (now links) (now gens) self ⌝ }
+        ensures { λ r. ⌜ ((calls : List Call) → Grown (now (words .entry)) (now (next .entry)) (now (links .entry)) (now (gens .entry)) self calls → ReadsList 8 regionGroups calls compartment from (now (out .entry)) (now (out .exit)) r) ⌝ }
+    {
+        if 8 <= compartment {
+            return Answer::Refused(Refusal::NoCompartment);
+        }
+        let k = compartment as usize;
+        let trackers = self.trackers;
+        let tracker = trackers[k];
+        let many = stream::regions(next, words, tracker.head, from, out);
+        Answer::Accepted(many as u64)
+    }
+
+    // A page of a compartment's stored segments: groups of four numbers.
+    pub fn segments(
+        self,
+        compartment: u64,
+        from: usize,
+        out: &mut [u64],
+        words: &[u64],
+        next: &[usize],
+        links: &[usize],
+        gens: &[u64],
+    ) -> Answer
+        requires { ⌜ IsGrown (now words) (now next) (now links) (now gens) self ⌝ }
+        ensures { λ r. ⌜ ((calls : List Call) → Grown (now (words .entry)) (now (next .entry)) (now (links .entry)) (now (gens .entry)) self calls → ReadsList 4 segmentGroups calls compartment from (now (out .entry)) (now (out .exit)) r) ⌝ }
+    {
+        if 8 <= compartment {
+            return Answer::Refused(Refusal::NoCompartment);
+        }
+        let k = compartment as usize;
+        let remappers = self.remappers;
+        let remapper = remappers[k];
+        let mut segments = [0u64; 256];
+        let n = remapper.copy_segments(&mut segments);
+        let many = stream::segments(&segments, n, from, out);
         Answer::Accepted(many as u64)
     }
 }

@@ -1,4 +1,4 @@
-// The capability engine: the tables of eight compartments over one pool of 1,024 records.
+// The capability engine: the tables of eight compartments over one pool of 1,024 records, and the scripts that run on them.
 mod compartments;
 mod region;
 mod remapper;
@@ -6,5 +6,6 @@ mod stream;
 
 pub use compartments::Created;
 pub use compartments::Outcome;
-pub use compartments::Trackers;
+pub use compartments::Tables;
 pub use region::RegionTracker;
+pub use remapper::Remapper;

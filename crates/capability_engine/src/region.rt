@@ -57,7 +57,7 @@ pub(crate) fn load(words: &[u64], i: usize) -> Region
 }
 
 pub(crate) fn save(words: &mut [u64], i: usize, r: Region)
-    requires { ⌜ (i < 1024) × (length (now words) ≡ 8192) ⌝ }
+    requires { ⌜ 8 * i + 8 ≤ length (now words) ⌝ }
     ensures { λ _. ⌜ now (words .exit) ≡ putRegion (now (words .entry)) i r ⌝ }
 {
     let b = 8 * i;

@@ -19,17 +19,18 @@ ghost use Rattle.free_list.specs.Grown.{Grown, IsGrown, Allocates, Frees};
 ghost use Rattle.definitions.proofs.SegmentLaws.{Good};
 ghost use Rattle.definitions.specs.Segments.{segment, hits, isIdentity, place, inOrder, hostEnd, spanEnd, front as frontOf, rest as restOf, hostInside, touched, spanWhole, spanInside};
 ghost use Rattle.definitions.specs.Questions.{frontCut};
+ghost use Rattle.definitions.specs.Pages.{segmentGroup};
 ghost use Rattle.capability_engine.specs.RemapHeld.{joinLinks, joinHead, Zip, Holds, IsHeld};
 ghost use Rattle.capability_engine.specs.RemapAsking.{leftHost, leftGuest, leftOf, okGuest, okFor, askHost, askGuest, askStep, askAll, nothingAsked, walked, inRange, repeats, halfOf, Trimmable};
 ghost use Rattle.capability_engine.specs.RemapAnswers.{canMap, canUnmap, canStart, canUnmapGpa, Overlaps, Maps, Unmaps, UnmapsGpa};
-ghost use Rattle.capability_engine.specs.RemapListing.{wordsOf, Copied, IsAhead, Starts, Steps};
+ghost use Rattle.capability_engine.specs.RemapListing.{Copied, IsAhead, Starts, Steps};
 
-pub(crate) struct Remapper {
-    pub(crate) segments: [Segment; 64],
-    pub(crate) links: [usize; 64],
-    pub(crate) free: [usize; 64],
-    pub(crate) list: FreeList,
-    pub(crate) head: usize,
+pub struct Remapper {
+    pub segments: [Segment; 64],
+    pub links: [usize; 64],
+    pub free: [usize; 64],
+    pub list: FreeList,
+    pub head: usize,
 }
 
 // What a call answers, and the remapper after it.
@@ -433,9 +434,9 @@ fn can_unmap_gpa(k: Asked, used: usize) -> Answer
     Answer::Accepted(0)
 }
 
-fn put_segment(out: &mut [u64], n: usize, s: Segment)
+pub(crate) fn put_segment(out: &mut [u64], n: usize, s: Segment)
     requires { ⌜ 4 * n + 4 ≤ length (now out) ⌝ }
-    ensures { λ _. ⌜ now (out .exit) ≡ sets (now (out .entry)) (4 * n) (wordsOf s) ⌝ }
+    ensures { λ _. ⌜ now (out .exit) ≡ sets (now (out .entry)) (4 * n) (segmentGroup s) ⌝ }
 {
     let b = 4 * n;
     out[b] = s.hpa.0;

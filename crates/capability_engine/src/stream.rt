@@ -9,13 +9,15 @@ ghost use lib.Seq.{sets};
 ghost use Rattle.definitions.specs.Tests.{if_then_else_, _=?_, host};
 ghost use Rattle.definitions.specs.Regions.{region, permissionOf};
 ghost use Rattle.definitions.specs.Stream.{sharedPart, identity, stream};
-ghost use Rattle.definitions.specs.Pages.{mappingGroup, permissionGroup};
+ghost use Rattle.definitions.specs.Pages.{mappingGroup, permissionGroup, regionGroup, segmentGroup};
 ghost use Rattle.capability_engine.specs.PoolWords.{regionAt};
 ghost use Rattle.capability_engine.specs.PoolChain.{slots, Listed, storedAt};
 ghost use Rattle.capability_engine.specs.SegmentWords.{segmentsFrom, segmentAt};
 ghost use Rattle.capability_engine.specs.StreamCursor.{Whole, Table, Ready, Says, Turned, Met, remaining, toGo, goesOn, begins, runs, lastTurn, firstTurn};
 ghost use Rattle.capability_engine.specs.StreamPage.{Filled};
 use crate::region::load;
+use crate::region::save;
+use crate::remapper::put_segment;
 use definitions::Counters;
 use definitions::GuestAddr;
 use definitions::HostAddr;
@@ -303,7 +305,7 @@ pub(crate) fn count(next: &[usize], words: &[u64], segments: &[u64], n: usize, h
 }
 
 // The cursor k mappings on.
-fn advance(
+pub(crate) fn advance(
     from: RemapCursor,
     next: &[usize],
     words: &[u64],
@@ -468,4 +470,63 @@ pub(crate) fn permissions(
 {
     let h = follow(next, head, k);
     fill_permissions(next, words, h, out)
+}
+
+// The regions from a slot on, as many as there are and as fit.
+fn fill_regions(next: &[usize], words: &[u64], from: usize, out: &mut [u64]) -> usize
+    requires { ⌜ length (now words) ≡ 8192 ⌝ }
+    requires { ⌜ Listed (now next) from (slots (now next) from) ⌝ }
+    ensures { λ r. ⌜ Filled 8 (map regionGroup (storedAt (now (next .entry)) (now (words .entry)) from)) 0
+        (now (out .entry)) (now (out .exit)) r ⌝ }
+{
+    let room = out.len() / 8;
+    let mut h = from;
+    let mut i: usize = 0;
+    while i < room {
+        if h >= 1024 {
+            return i;
+        }
+        let r = load(words, h);
+        save(out, i, r);
+        h = next[h];
+        i += 1;
+    }
+    i
+}
+
+// A page from region k on: as many groups of eight numbers as the slice and the list allow, and how many.
+pub(crate) fn regions(
+    next: &[usize],
+    words: &[u64],
+    head: usize,
+    k: usize,
+    out: &mut [u64],
+) -> usize
+    requires { ⌜ length (now words) ≡ 8192 ⌝ }
+    requires { ⌜ Listed (now next) head (slots (now next) head) ⌝ }
+    ensures { λ r. ⌜ Filled 8 (map regionGroup (storedAt (now (next .entry)) (now (words .entry)) head)) k
+        (now (out .entry)) (now (out .exit)) r ⌝ }
+{
+    let h = follow(next, head, k);
+    fill_regions(next, words, h, out)
+}
+
+// A page from segment k on of n that are lent as numbers: as many groups of four as the slice and the list allow.
+pub(crate) fn segments(list: &[u64], n: usize, k: usize, out: &mut [u64]) -> usize
+    requires { ⌜ (n ≤ 64) × (4 * n ≤ length (now list)) ⌝ }
+    ensures { λ r. ⌜ Filled 4 (map segmentGroup (segmentsFrom (now (list .entry)) 0 n)) k (now (out .entry)) (now (out .exit)) r ⌝ }
+{
+    let room = out.len() / 4;
+    let mut from = k;
+    let mut i: usize = 0;
+    while i < room {
+        if from >= n {
+            return i;
+        }
+        let s = load_segment(list, from);
+        put_segment(out, i, s);
+        from += 1;
+        i += 1;
+    }
+    i
 }

@@ -38,7 +38,7 @@ wide-length w [] h = omega arith
 wide-length w (g ∷ gs) h = simp length-append (omega (arith, wide-length w gs (h .1)))
 
 module _ (w : ℕ) (gs : List (List ℕ)) where
-  page-rest : (k room : ℕ) → page w gs k room ++ drop (k + length (page w gs k room)) gs ≡ drop k gs
+  pub page-rest : (k room : ℕ) → page w gs k room ++ drop (k + length (page w gs k room)) gs ≡ drop k gs
   unfolding page
   page-rest k room =
       ap (λ l. take (room / w) (drop k gs) ++ l) (sym (drop-drop (length (take (room / w) (drop k gs))) k gs))
@@ -76,7 +76,7 @@ module _ (w : ℕ) (gs : List (List ℕ)) where
 
 -- the groups that a page reads fit its slice, which keeps its length and its rest
 module _ (w : ℕ) (gs : List (List ℕ)) (wide : Wide w gs) (k : ℕ) (slice : List ℕ) where
-  read-length : length (each (λ g. g) (page w gs k (length slice))) ≡ w * length (page w gs k (length slice))
+  pub read-length : length (each (λ g. g) (page w gs k (length slice))) ≡ w * length (page w gs k (length slice))
   unfolding page
   read-length =
       wide-length w (take (length slice / w) (drop k gs)) (wide-take w (length slice / w) (drop k gs) (wide-drop w k gs wide))

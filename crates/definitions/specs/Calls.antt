@@ -7,7 +7,7 @@ use lib.ListN.{length, getD, set, replicate}
 use Rattle.definitions.specs.Tests.{_<?_, if_then_else_}
 use Rattle.definitions.specs.Regions.{regions, permissionOf}
 use Rattle.definitions.specs.Stream.{stream}
-use Rattle.definitions.specs.Pages.{page, mappingGroup, permissionGroup}
+use Rattle.definitions.specs.Pages.{page, mappingGroup, permissionGroup, regionGroup, segmentGroup}
 use Rattle.definitions.specs.Reckoning.{Compartment, empty, reckon, compartmentOf}
 use Rattle.definitions.specs.Questions.{ask, accepted, onAdd, onRemove, onRefcount, onOverlaps, onMap, onUnmap, onUnmapGpa}
 use Rattle.definitions.specs.declared.remapper.Mapping.{Mapping}
@@ -41,6 +41,13 @@ streamGroups c = map mappingGroup (streamOf c)
 
 unfoldable pub permissionGroups : Compartment → List (List ℕ)
 permissionGroups c = map (λ r. permissionGroup (permissionOf r)) (regions (c .values))
+
+-- its stored lists, in the same way
+unfoldable pub regionGroups : Compartment → List (List ℕ)
+regionGroups c = map regionGroup (regions (c .values))
+
+unfoldable pub segmentGroups : Compartment → List (List ℕ)
+segmentGroups c = map segmentGroup (c .segments)
 
 -- what a call answers that names compartment c, beside so many records in use
 unfoldable pub answerIn : ℕ → Compartment → Call → Answer

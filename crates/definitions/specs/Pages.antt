@@ -4,7 +4,9 @@ use mathlib.Core.List.{List, [], _∷_, _++_}
 use lib.ListN.{length, take, drop}
 use Rattle.definitions.specs.Tests.{each}
 use Rattle.definitions.specs.declared.region.MemoryPermission.{MemoryPermission}
+use Rattle.definitions.specs.declared.region.Region.{Region}
 use Rattle.definitions.specs.declared.remapper.Mapping.{Mapping}
+use Rattle.definitions.specs.declared.remapper.Segment.{Segment}
 
 -- groups of five numbers (hpa, gpa, size, repeat, rights); of a permission start, end, rights
 unfoldable pub mappingGroup : Mapping → List ℕ
@@ -12,6 +14,15 @@ mappingGroup m = m .hpa .0 ∷ m .gpa .0 ∷ m .size ∷ m .repeat ∷ m .ops .0
 
 unfoldable pub permissionGroup : MemoryPermission → List ℕ
 permissionGroup p = p .start .0 ∷ p .end .0 ∷ p .ops .0 ∷ []
+
+-- of a stored region its range and all six values; of a stored segment its four numbers
+abbrev pub regionGroup : Region → List ℕ
+regionGroup r =
+    r .start .0 ∷ r .end .0 ∷ r .values .refcount ∷ r .values .counters .read ∷ r .values .counters .write
+    ∷ r .values .counters .exec ∷ r .values .counters .supervisor ∷ r .values .counters .uncacheable ∷ []
+
+unfoldable pub segmentGroup : Segment → List ℕ
+segmentGroup s = s .hpa .0 ∷ s .gpa .0 ∷ s .size ∷ s .repeat ∷ []
 
 -- A page read from group k fills as many whole groups as the lent slice and the list allow, and answers how many.
 unfoldable pub page : ℕ → List (List ℕ) → ℕ → ℕ → List (List ℕ)

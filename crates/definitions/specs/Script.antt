@@ -144,6 +144,11 @@ unfoldable pub outputFrom : State → List (List ℕ) → List (List ℕ)
 outputFrom s [] = []
 outputFrom s (line ∷ lines) = printed s (lineOf line) ++ outputFrom (left s (lineOf line)) lines
 
+-- what lines leave, each on what the last one left
+unfoldable pub leftFrom : State → List (List ℕ) → State
+leftFrom s [] = s
+leftFrom s (line ∷ lines) = leftFrom (left s (lineOf line)) lines
+
 -- the output lines of a whole script, from empty tables
 unfoldable pub outputOf : List ℕ → List (List ℕ)
 outputOf script = heading ∷ outputFrom start (linesOf script)

@@ -1,11 +1,14 @@
 -- What a line says as the code's value.
-use Prim.Native.Nat.{ℕ}
+use Prim.Native.Nat.{ℕ, _+_}
 use mathlib.Core.Bool.{Bool, true, false}
-use mathlib.Core.List.{List}
-use Rattle.definitions.specs.Script.{Read, numbers, unread, call, malformed}
+use mathlib.Core.List.{List, [], _∷_, _++_}
+use lib.ListN.{length, set}
+use Rattle.definitions.specs.Tests.{_<?_, _=?_, if_then_else_}
+use Rattle.definitions.specs.Script.{Read, numbers, unread, call, malformed, linesOf}
 use Rattle.definitions.specs.Script as Script
 use Rattle.lines.specs.declared.Line.{Line}
 use Rattle.lines.specs.declared.Line.the-variants.{Call, Malformed}
+use Rattle.lines.specs.declared.Taken.{Taken}
 
 abbrev pub lineFrom : Script.Line → Line
 lineFrom (call c) = Call c
@@ -15,3 +18,16 @@ lineFrom malformed = Malformed
 abbrev pub readAs : Bool → List ℕ → Read
 readAs true ns = numbers ns
 readAs false ns = unread
+
+-- the lines of bytes that go on with a line that has begun with others
+unfoldable pub linesWith : List ℕ → List ℕ → List (List ℕ)
+linesWith held [] = if length held =? 0 then [] else held ∷ []
+linesWith held (b ∷ bs) = if b =? 10 then held ∷ linesOf bs else linesWith (held ++ (b ∷ [])) bs
+
+-- the bytes of a line put behind the len that are held, as many as fit; up to its end, which is passed
+unfoldable pub takes : List ℕ → ℕ → ℕ → List ℕ → List ℕ × Taken
+takes line len used [] = (line, record { used = used; len = len; ended = false })
+takes line len used (b ∷ bs) =
+    if b =? 10 then (line, record { used = used + 1; len = len; ended = true })
+    else if len <? length line then takes (set line len b) (len + 1) (used + 1) bs
+    else takes line len (used + 1) bs

@@ -7,7 +7,7 @@ ghost use lib.Seq.{sets};
 ghost use Rattle.definitions.specs.Tests.{each};
 ghost use Rattle.definitions.specs.Script.{numbers, columnsOf, arity, callOf, lineOf, numberIn, heading, answerLine, mappingLine};
 ghost use Rattle.columns.specs.Columns.{Wrote};
-ghost use Rattle.lines.specs.Lines.{lineFrom, readAs};
+ghost use Rattle.lines.specs.Lines.{lineFrom, readAs, takes};
 use columns::Column;
 use columns::Put;
 use definitions::Answer;
@@ -20,6 +20,13 @@ use definitions::Mapping;
 pub enum Line {
     Call(Call),
     Malformed,
+}
+
+// How far bytes are taken, how many of the line are held, and whether its end was met.
+pub struct Taken {
+    pub used: usize,
+    pub len: usize,
+    pub ended: bool,
 }
 
 // How many numbers of 21 columns the letter's line has behind the compartment.
@@ -112,6 +119,35 @@ pub fn parse_line(line: &[u8]) -> Line
         return Line::Malformed;
     }
     call_of(letter, k, found[0], found[1], found[2], found[3])
+}
+
+// The bytes of a line go behind the len that are held of it, as many as line takes, up to the line's end, which is passed. No
+// line of 88 bytes is of the form, so whoever lends as many loses nothing.
+pub fn take_line(line: &mut [u8], len: usize, input: &[u8], from: usize) -> Taken
+    ensures { λ r. ⌜ (now (line .exit), r) ≡ takes (now (line .entry)) len from (drop from (now (input .entry))) ⌝ }
+{
+    let mut held = len;
+    let mut used = from;
+    while used < input.len() {
+        let b = input[used];
+        used += 1;
+        if b == b'\n' {
+            return Taken {
+                used,
+                len: held,
+                ended: true,
+            };
+        }
+        if held < line.len() {
+            line[held] = b;
+            held += 1;
+        }
+    }
+    Taken {
+        used,
+        len: held,
+        ended: false,
+    }
 }
 
 // How many bytes a line of the output has.

@@ -1,3 +1,4 @@
+use native.Mathlib.Omega.{arith}
 use Rattle.capability_engine.proofs.PoolHeaps.{popped-low}
 use borrow.Author.Needs.{needs}
 use Rattle.capability_engine.proofs.region.insert_region.Statement.{statement}
@@ -7,7 +8,7 @@ insert-after-requires : tie.Need-insert-after-requires
 insert-after-requires c κs = search needs
 
 save-requires : tie.Need-save-requires
-save-requires c κs = (popped-low _ _ _ (c .before .before .before .before .before .before .before .before .before .before .before .before .pre .0 .heap) (c .before .before .before .before .before .insert-after .ensures .popped), c .before .before .before .before .before .before .before .before .before .before .before .before .pre .1)
+save-requires c κs = omega (arith, popped-low _ _ _ (c .before .before .before .before .before .before .before .before .before .before .before .before .pre .0 .heap) (c .before .before .before .before .before .insert-after .ensures .popped), c .before .before .before .before .before .before .before .before .before .before .before .before .pre .1)
 
 same-length : tie.Need-same-length
 same-length c = search needs

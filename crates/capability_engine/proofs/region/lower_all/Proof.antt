@@ -54,7 +54,7 @@ loop-again : tie.Need-loop-again Inv-loop μ-loop
 loop-again c = lower-drop _ _ _ (c .before .before .before .before .before .before .before .before .before .before .before .before .before .before .before .before .before .loop .inv) _ _ _ refl (c .before .before .before .before .before .before .before .before .before .before .before .before .before .before .before .if1 .left) (c .before .before .before .before .before .before .before .before .before .before .before .before .before .load .ensures) (c .before .before .before .before .before .before .before .before .before .before .before .before .decrease-in .ensures) _ _ (c .before .before .before .before .before .before .before .before .before .before .if2 .taken) (c .before .before .before .before .before .before .remove-after .ensures) .0
 
 save-requires : tie.Need-save-requires Inv-loop μ-loop
-save-requires c κs = (c .before .before .before .before .before .before .if1 .left, c .before .before .before .before .before .before .before .before .loop .inv .pass .ready .words)
+save-requires c κs = omega (arith, c .before .before .before .before .before .before .if1 .left, c .before .before .before .before .before .before .before .before .loop .inv .pass .ready .words)
 
 loop-less-2 : tie.Need-loop-less-2 Inv-loop μ-loop
 loop-less-2 c = lower-put _ _ _ (c .before .before .before .before .before .before .before .before .before .before .before .loop .inv) _ _ _ refl (c .before .before .before .before .before .before .before .before .before .if1 .left) (c .before .before .before .before .before .before .before .load .ensures) (c .before .before .before .before .before .before .decrease-in .ensures) _ (c .before .before .before .before .if2 .left) (c .before .before .save .ensures) .1

@@ -36,7 +36,7 @@ increase-in-requires : tie.Need-increase-in-requires Inv-loop μ-loop
 increase-in-requires c κs = change-small _ _ _ (c .before .before .before .before .loop .inv (c .before .before .before .before .before .before .before .pre .0 .0) (c .before .before .before .before .before .before .before .pre .0 .1)) _ _ refl (c .before .before .if1 .left) (c .load .ensures) (c .before .before .before .before .before .before .before .pre .1)
 
 save-requires : tie.Need-save-requires Inv-loop μ-loop
-save-requires c κs = (c .before .before .before .before .if1 .left, (c .before .before .before .before .before .before .loop .inv (c .before .before .before .before .before .before .before .before .before .pre .0 .0) (c .before .before .before .before .before .before .before .before .before .pre .0 .1)) .pass .ready .words)
+save-requires c κs = omega (arith, c .before .before .before .before .if1 .left, (c .before .before .before .before .before .before .loop .inv (c .before .before .before .before .before .before .before .before .before .pre .0 .0) (c .before .before .before .before .before .before .before .before .before .pre .0 .1)) .pass .ready .words)
 
 loop-less : tie.Need-loop-less Inv-loop μ-loop
 loop-less c = change-it _ _ _ (c .before .before .before .before .before .before .before .before .before .loop .inv (c .before .before .before .before .before .before .before .before .before .before .before .before .pre .0 .0) (c .before .before .before .before .before .before .before .before .before .before .before .before .pre .0 .1)) _ _ refl (c .before .before .before .before .before .before .before .if1 .left) (c .before .before .before .before .before .load .ensures) _ _ (c .before .before .before .before .increase-in .ensures) (c .before .before .save .ensures) .1

@@ -1,5 +1,5 @@
 use native.Mathlib.Numerals.{towards-suc}
-use Rattle.capability_engine.specs.RemapListing.{wordsOf}
+use Rattle.definitions.specs.Pages.{segmentGroup}
 use native.Mathlib.Omega.{arith}
 use lib.ListN.{length-set}
 use borrow.Author.Needs.{needs}
@@ -46,7 +46,7 @@ same-length : tie.Need-same-length
 same-length c = search needs
 
 returns : tie.Need-returns
-unfolding wordsOf
+unfolding segmentGroup
 returns c = simp towards-suc
 
 pub put-segment-spec : {M : Type 1} → statement M

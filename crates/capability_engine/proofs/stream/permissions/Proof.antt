@@ -1,9 +1,5 @@
-use Rattle.capability_engine.proofs.StreamFills.{from-at, map-drop}
+use Rattle.capability_engine.proofs.StreamWalks.{walk-from}
 use Rattle.capability_engine.specs.StreamPage.{permissionWords}
-use Rattle.capability_engine.specs.PoolChain.{slots, storedAt}
-use Rattle.capability_engine.specs.PoolWords.{regionAt}
-use mathlib.Core.List.{map}
-use mathlib.Core.Path.{ap, _∙_}
 use borrow.Author.Needs.{needs}
 use Rattle.capability_engine.proofs.stream.permissions.Statement.{statement}
 use Rattle.capability_engine.proofs.stream.permissions.Tie as tie
@@ -18,7 +14,7 @@ same-length : tie.Need-same-length
 same-length c = search needs
 
 returns : tie.Need-returns
-returns c = from-at 3 permissionWords (storedAt (c .before .before .before .before .before .before .before .before .args .next .now) (c .before .before .before .before .before .before .before .before .args .words .now) (c .before .before .before .before .before .before .before .before .args .head)) _ (c .before .before .before .before .before .before .before .before .args .k) _ _ _ (ap (map (regionAt (c .before .before .before .before .before .before .before .before .args .words .now))) (c .before .before .before .before .follow .ensures .1) ∙ map-drop (regionAt (c .before .before .before .before .before .before .before .before .args .words .now)) (c .before .before .before .before .before .before .before .before .args .k) (slots (c .before .before .before .before .before .before .before .before .args .next .now) (c .before .before .before .before .before .before .before .before .args .head))) (c .before .before .fill-permissions .ensures)
+returns c = walk-from 3 permissionWords _ _ (c .before .before .before .before .before .before .before .before .args .head) _ (c .before .before .before .before .before .before .before .before .args .k) _ _ _ (c .before .before .before .before .follow .ensures .1) (c .before .before .fill-permissions .ensures)
 
 pub permissions-spec : {M : Type 1} → statement M
 permissions-spec =

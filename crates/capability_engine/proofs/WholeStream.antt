@@ -1,0 +1,207 @@
+-- Demand 3: whatever is called, the whole stream that is read of a compartment is that of its reckoning.
+use Prim.Native.Nat.{ℕ, _+_, _*_, _-_, _<_, _≤_}
+use mathlib.Core.Path.{_≡_, refl, sym, ap, ap₂, _∙_, subst}
+use mathlib.Core.Bool.{Bool}
+use mathlib.Core.List.{List, [], _∷_, _++_, map, append-nil, append-assoc}
+use native.Mathlib.Omega.{arith}
+use borrow.Author.Tests.{lt-ltb}
+use lib.ListN.{length, getD, take, drop, length-map, length-take, length-drop}
+use lib.Seq.{take-at, drop-append-seam}
+use Rattle.definitions.specs.Tests.{each}
+use Rattle.definitions.specs.Stream.{stream}
+use Rattle.definitions.specs.Pages.{page, filled, mappingGroup}
+use Rattle.definitions.specs.Reckoning.{Compartment, compartmentOf, reckoning}
+use Rattle.definitions.specs.Questions.{ask, accepted}
+use Rattle.definitions.specs.Calls.{State, start, compartment, streamOf, streamGroups, answerIn, answer, next, afterFrom, after, fedFrom, fed}
+use Rattle.definitions.specs.declared.answer.Answer.{Answer}
+use Rattle.definitions.specs.declared.answer.Answer.the-variants.{Accepted}
+use Rattle.definitions.specs.declared.call.Call.{Call}
+use Rattle.definitions.specs.declared.remapper.Mapping.{Mapping}
+use Rattle.definitions.proofs.PageLaws.{wide-map, page-rest, last-page, read-length}
+use Rattle.definitions.proofs.StreamLaws.{agrees}
+use Rattle.definitions.proofs.Reckoned.{reckoned}
+use Rattle.definitions.proofs.Stored.{stored}
+use Rattle.capability_engine.specs.declared.remapper.Remapper.{Remapper}
+use Rattle.capability_engine.specs.declared.stream.RemapCursor.{RemapCursor}
+use Rattle.capability_engine.specs.StreamCursor.{Table, Ready, remaining}
+use Rattle.capability_engine.specs.CompartmentGrown.{pageLeft}
+use Rattle.capability_engine.specs.CompartmentSteps.{noTracker}
+use Rattle.capability_engine.specs.WholeStream as said
+use Rattle.capability_engine.specs.WholeStream.{Memory, GrownBy, Ran, Page, Paged, ByPages, Copies, Begins, Stepped, ByCursor, StreamIs, Statement}
+use Rattle.capability_engine.proofs.StreamLists.{map-append, each-append}
+use Rattle.capability_engine.proofs.StreamFills.{five, map-drop}
+use Rattle.capability_engine.proofs.CompartmentFacts.{held, whole, stored-is, table}
+
+-- what a reckoning is fed of one call more
+fedFrom-snoc : (calls : List Call) (s : State) (c : Call)
+    → fedFrom s (calls ++ (c ∷ [])) ≡ fedFrom s calls ++ ((c, accepted (answer (afterFrom s calls) c)) ∷ [])
+unfolding afterFrom fedFrom
+fedFrom-snoc [] s c = refl
+fedFrom-snoc (d ∷ ds) s c = ap (λ (l : List (Call × Bool)). (d, accepted (answer s d)) ∷ l) (fedFrom-snoc ds (next s d) c)
+
+fed-snoc : (calls : List Call) (c : Call) → fed (calls ++ (c ∷ [])) ≡ fed calls ++ ((c, accepted (answer (after calls) c)) ∷ [])
+unfolding fed after
+fed-snoc calls c = fedFrom-snoc calls start c
+
+-- the calls heard grew what they leave, and each was accepted exactly where the definitions accept it
+abbrev callsOf : List (Call × Bool) → List Call
+callsOf heard = map (λ h. h .0) heard
+
+record Told (m : Memory) (heard : List (Call × Bool)) : Type 0 where
+  grown : GrownBy m (callsOf heard)
+  same : heard ≡ fed (callsOf heard)
+
+told-more : (m m' : Memory) (heard : List (Call × Bool)) (call : Call) (a : Answer) → Told m heard
+    → a ≡ answer (after (callsOf heard)) call → GrownBy m' (callsOf heard ++ (call ∷ []))
+    → Told m' (heard ++ ((call, accepted a) ∷ []))
+told-more m m' heard call a t e g = record {
+  grown = subst (GrownBy m') (sym more) g;
+  same =
+      ap₂ (λ (h : List (Call × Bool)) (b : Answer). h ++ ((call, accepted b) ∷ [])) (t .same) e
+      ∙ sym (fed-snoc (callsOf heard) call) ∙ ap fed (sym more);
+}
+  where
+    more : callsOf (heard ++ ((call, accepted a) ∷ [])) ≡ callsOf heard ++ (call ∷ [])
+    more = map-append (λ h. h .0) heard ((call, accepted a) ∷ [])
+
+told : {m : Memory} {heard : List (Call × Bool)} → Ran m heard → Told m heard
+unfolding fed fedFrom
+told (said.new c) = record { grown = c .made refl; same = refl }
+told (said.changed {m} {m'} {heard} {call} {a} r p) =
+    let t = told r in
+    let q = p (callsOf heard) (t .grown) in
+    told-more m m' heard call a t (q .answered) (q .grown)
+told (said.asked {m} {heard} {call} {a} r p) =
+    let t = told r in
+    let q = p (callsOf heard) (t .grown) in
+    told-more m m heard call a t (q .answered) (q .grown)
+
+-- the numbers of groups, in order
+abbrev flat : List (List ℕ) → List ℕ
+flat groups = each (λ group. group) groups
+
+flat-map : {A : Type 0} (f : A → List ℕ) (xs : List A) → flat (map f xs) ≡ each f xs
+flat-map f [] = refl
+flat-map f (x ∷ xs) = ap (λ l. f x ++ l) (flat-map f xs)
+
+accepted-many : (a b : ℕ) → Accepted a ≡ Accepted b → a ≡ b
+accepted-many a b e = cc
+
+-- what is found before the end is the front of all
+front-of : {A : Type 0} (found later all : List A) → found ++ later ≡ all → found ++ drop (length found) all ≡ all
+front-of {A} found later all e =
+    ap (λ (t : List A). found ++ drop (length found) t) (sym e)
+    ∙ ap (λ (t : List A). found ++ t) (drop-append-seam found later) ∙ e
+
+-- compartment k of grown tables
+module _ (m : Memory) (calls : List Call) (g : GrownBy m calls) (k : ℕ) (l : k < 8) where
+  abbrev mine : Compartment
+  mine = compartment (after calls) k
+
+  abbrev groups : List (List ℕ)
+  groups = streamGroups mine
+
+  page-few : (from room : ℕ) → length (page 5 groups from room) ≤ length groups - from
+  unfolding page
+  page-few from room = simp (length-take, length-drop) (omega arith)
+
+  -- a page: what it answers, and the numbers read
+  module _ (from many : ℕ) (out out' : List ℕ) (p : Page m k from out out' (Accepted many)) where
+    page-many : many ≡ length (page 5 groups from (length out))
+    unfolding answer answerIn ask compartmentOf
+    page-many = accepted-many _ _ (simp (lt-ltb k 8 l) at (p calls g .reads .answered))
+
+    page-numbers : take (5 * many) out' ≡ flat (page 5 groups from (length out))
+    unfolding pageLeft filled compartmentOf streamGroups
+    page-numbers =
+        let s : out' ≡ filled 5 groups from out = simp (lt-ltb k 8 l) at (p calls g .slice) in
+        let five-each = read-length 5 groups (wide-map 5 mappingGroup five (streamOf mine)) from out in
+        rw (s, page-many) (take-at (flat (page 5 groups from (length out))) _ _ five-each)
+
+    page-fits : from ≤ length groups → from + many ≤ length groups
+    page-fits h = omega (arith, page-many, page-few from (length out))
+
+    -- the numbers read and those of the groups behind them are those from there on
+    page-then : take (5 * many) out' ++ flat (drop (from + many) groups) ≡ flat (drop from groups)
+    page-then =
+        let rest : page 5 groups from (length out) ++ drop (from + many) groups ≡ drop from groups
+        = rw page-many (page-rest 5 groups from (length out)) in
+        ap (λ (t : List ℕ). t ++ flat (drop (from + many) groups)) page-numbers
+        ∙ sym (each-append (λ group. group) (page 5 groups from (length out)) (drop (from + many) groups)) ∙ ap flat rest
+
+  -- pages: the numbers read and those of the groups still to come are the whole
+  paged-is : {from : ℕ} {got : List ℕ} → Paged m k from got
+      → (from ≤ length groups) × (got ++ flat (drop from groups) ≡ flat groups)
+  paged-is said.Paged.none = (omega arith, refl)
+  paged-is (said.Paged.more {from} {many} {got} {out} {out'} before p) =
+      let i = paged-is before in
+      let behind : got ++ (take (5 * many) out' ++ flat (drop (from + many) groups)) ≡ flat groups
+      = ap (λ (t : List ℕ). got ++ t) (page-then from many out out' p) ∙ i .1 in
+      (page-fits from many out out' p (i .0), append-assoc got (take (5 * many) out') (flat (drop (from + many) groups)) ∙ behind)
+
+  by-pages : {got : List ℕ} → ByPages m k got → got ≡ flat groups
+  by-pages (said.ByPages.last {from} {many} {got} {out} {out'} before p few) =
+      let e = page-many from many out out' p in
+      let none : drop (from + many) groups ≡ [] = rw e (last-page 5 groups from (length out) (rw e at few)) in
+      sym (append-nil (got ++ take (5 * many) out'))
+      ∙ ap (λ (t : List (List ℕ)). (got ++ take (5 * many) out') ++ flat t) (sym none)
+      ∙ paged-is (said.Paged.more before p) .1
+
+  -- the cursor: it may be stepped, and the mappings found and those still to come are the whole
+  module _ {copy : List ℕ} {n : ℕ} where
+    begins-is : {c : RemapCursor} {slice : List ℕ} (other : Remapper)
+        → 256 ≤ length slice → Copies (getD (m .tables .remappers) k other) slice copy n
+        → Begins (m .next) (m .words) copy n (getD (m .tables .trackers) k noTracker .head) c
+        → Table (m .words) copy n × Ready (m .next) (m .words) copy n c × (remaining (m .next) (m .words) copy n c ≡ streamOf mine)
+    unfolding streamOf
+    begins-is {c} {slice} other room copies begins =
+        let d = copies (mine .segments) (held (m .words) (m .next) (m .links) (m .gens) (m .tables) calls g k l other) in
+        let t = table (m .words) (m .next) (m .links) (m .gens) (m .tables) calls g k l slice copy n room d in
+        let r = begins t (whole (m .words) (m .next) (m .links) (m .gens) (m .tables) calls g k l) in
+        (t, r .0, r .1 ∙ ap₂ stream (stored-is (m .words) (m .next) (m .links) (m .gens) (m .tables) calls g k l) (d .same))
+
+    stepped-is : {c : RemapCursor} {found : List Mapping} → Stepped m k copy n c found
+        → Table (m .words) copy n × Ready (m .next) (m .words) copy n c × (found ++ remaining (m .next) (m .words) copy n c ≡ streamOf mine)
+    stepped-is (said.Stepped.none other room copies begins) = begins-is other room copies begins
+    stepped-is (said.Stepped.more {c} {d} {x} {found} before p) =
+        let i = stepped-is before in
+        let s = p (i .0) (i .1) in
+        let behind : found ++ (x ∷ remaining (m .next) (m .words) copy n d) ≡ streamOf mine
+        = ap (λ (t : List Mapping). found ++ t) (sym (s .0)) ∙ i .2 in
+        (i .0, s .1, append-assoc found (x ∷ []) (remaining (m .next) (m .words) copy n d) ∙ behind)
+
+  by-cursor : {found : List Mapping} → ByCursor m k found → found ≡ streamOf mine
+  by-cursor (said.ByCursor.last {found = found} before p) =
+      let i = stepped-is before in
+      sym (append-nil found) ∙ ap (λ (t : List Mapping). found ++ t) (sym (p (i .0) (i .1))) ∙ i .2
+
+  -- the groups are the mappings'
+  numbers : (from : ℕ) → flat (drop from groups) ≡ each mappingGroup (drop from (streamOf mine))
+  unfolding streamGroups
+  numbers from = ap flat (sym (map-drop mappingGroup from (streamOf mine))) ∙ flat-map mappingGroup (drop from (streamOf mine))
+
+  as-many : length groups ≡ length (streamOf mine)
+  unfolding streamGroups
+  as-many = length-map (streamOf mine) mappingGroup
+
+  stream-is : StreamIs m k mine
+  unfolding streamOf
+  stream-is = record {
+    byPages = λ got p. by-pages p ∙ numbers 0;
+    byCursor = λ found p. by-cursor p;
+    agrees = λ x small. agrees x small mine (stored calls k .blank);
+    paged = λ from got p.
+        let i = paged-is p in
+        (rw as-many at (i .0), ap (λ (t : List ℕ). got ++ t) (sym (numbers from)) ∙ i .1 ∙ numbers 0);
+    stepped = λ copy n d found p. front-of found (remaining (m .next) (m .words) copy n d) (streamOf mine) (stepped-is p .2);
+  }
+
+pub «whole_stream» : Statement
+«whole_stream» m heard r =
+    let t = told r in
+    record {
+      reckoned = λ k l.
+          subst (StreamIs m k) (reckoned (callsOf heard) k ∙ ap (reckoning k) (sym (t .same)))
+          (stream-is m (callsOf heard) (t .grown) k l);
+      grown = t .grown;
+    }
