@@ -39,3 +39,7 @@ pub mod CompartmentCalls
 pub mod CompartmentNew
 pub mod WholeStream
 pub mod Promised
+pub mod ScriptTasks
+pub mod ScriptHears
+pub mod ScriptPrints
+pub mod ScriptGoing

@@ -14,3 +14,5 @@ pub mod RemapListing
 pub mod CompartmentGrown
 pub mod CompartmentSteps
 pub mod WholeStream
+pub mod ScriptFeed
+pub mod ScriptSteps

@@ -2,6 +2,7 @@
 mod compartments;
 mod region;
 mod remapper;
+mod script;
 mod stream;
 
 pub use compartments::Created;
@@ -9,3 +10,6 @@ pub use compartments::Outcome;
 pub use compartments::Tables;
 pub use region::RegionTracker;
 pub use remapper::Remapper;
+pub use script::Fed;
+pub use script::Progress;
+pub use script::Script;

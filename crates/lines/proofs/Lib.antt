@@ -1,3 +1,4 @@
 pub mod Fields
 pub mod Written
 pub mod Taking
+pub mod Pieces

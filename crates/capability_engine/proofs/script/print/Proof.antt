@@ -1,0 +1,74 @@
+use native.Mathlib.Omega.{arith}
+use mathlib.Core.Path.{ap, _∙_}
+use lib.Dec.{lit≤}
+use Rattle.columns.proofs.Room.{room, no-room}
+use Rattle.capability_engine.specs.declared.script.Progress.{Progress}
+use Rattle.capability_engine.proofs.ScriptPrints.{print-rest, print-none, print-all}
+use borrow.Author.Needs.{needs}
+use Rattle.capability_engine.proofs.script.print.Statement.{statement}
+use Rattle.capability_engine.proofs.script.print.Tie as tie
+
+slice-aggregate-copy-segments : tie.Need-slice-aggregate-copy-segments
+slice-aggregate-copy-segments c = search needs
+
+copy-segments-requires : tie.Need-copy-segments-requires
+copy-segments-requires c κs = search needs
+
+slice-aggregate-print-mappings : tie.Need-slice-aggregate-print-mappings
+slice-aggregate-print-mappings c = search needs
+
+print-mappings-requires : tie.Need-print-mappings-requires
+print-mappings-requires c κs = (c .before .before .before .before .before .before .before .before .before .before .pre .0 .1 .table _ _ _ (lit≤ tt) (c .before .before .before .before .before .copy-segments .ensures _ (c .before .before .before .before .before .before .before .before .before .before .pre .0 .1 .held)), (c .before .before .before .before .before .before .before .before .before .before .pre .0 .1 .whole, (c .before .before .if1 .taken, c .before .before .before .before .before .before .before .before .before .before .pre .1 .0, c .before .before .before .before .before .before .before .before .before .before .pre .1 .1)))
+
+same-length : tie.Need-same-length
+same-length c = search needs
+
+returns : tie.Need-returns
+returns c = λ d s. print-rest _ _ _ _ d s _ _ _ (c .before .before .before .before .before .before .before .before .copy-segments .ensures _ (s .held)) _ _ _ _ (c .before .before .before .before .before .if1 .taken) (c .before .before .print-mappings .ensures)
+
+has-room-requires : tie.Need-has-room-requires
+has-room-requires c κs = search needs
+
+returns-2 : tie.Need-returns-2
+returns-2 c = λ d s. print-none _ _ _ _ d s _ _ _ (c .before .before .before .before .before .copy-segments .ensures _ (s .held)) _ _ (c .before .before .if1 .left) (no-room _ _ 25 _ (c .before .has-room .ensures) (c .if2 .taken)) (c .before .before .before .before .before .before .before .before .before .before .pre .1 .1)
+
+slice-aggregate-count : tie.Need-slice-aggregate-count
+slice-aggregate-count c = search needs
+
+count-requires : tie.Need-count-requires
+count-requires c κs = (c .before .before .before .before .before .before .before .before .before .before .before .pre .0 .1 .table _ _ _ (lit≤ tt) (c .before .before .before .before .before .before .copy-segments .ensures _ (c .before .before .before .before .before .before .before .before .before .before .before .pre .0 .1 .held)), c .before .before .before .before .before .before .before .before .before .before .before .pre .0 .1 .whole)
+
+tell-requires : tie.Need-tell-requires
+tell-requires c κs = (room _ _ 25 _ (c .before .before .before .before .has-room .ensures) (c .before .before .before .if2 .left), c .before .before .before .before .before .before .before .before .before .before .before .before .before .pre .1 .1)
+
+slice-aggregate-print-mappings-2 : tie.Need-slice-aggregate-print-mappings-2
+slice-aggregate-print-mappings-2 c = search needs
+
+print-mappings-requires-2 : tie.Need-print-mappings-requires-2
+print-mappings-requires-2 c κs = (c .before .before .before .before .before .before .before .before .before .before .before .before .before .before .before .before .before .before .pre .0 .1 .table _ _ _ (lit≤ tt) (c .before .before .before .before .before .before .before .before .before .before .before .before .before .copy-segments .ensures _ (c .before .before .before .before .before .before .before .before .before .before .before .before .before .before .before .before .before .before .pre .0 .1 .held)), (c .before .before .before .before .before .before .before .before .before .before .before .before .before .before .before .before .before .before .pre .0 .1 .whole, (omega arith, ap (λ (x : Progress). x .full) (c .before .before .before .before .tell .ensures .1) ∙ c .before .before .before .before .before .before .before .before .before .before .before .before .before .before .before .before .before .before .pre .1 .0, omega (arith, c .before .before .before .before .before .before .before .before .before .before .before .before .before .before .before .before .before .before .pre .1 .1, ap (λ (x : Progress). x .at) (c .before .before .before .before .tell .ensures .1), ap (λ (x : Progress). x .lines) (c .before .before .before .before .tell .ensures .1)))))
+
+same-length-2 : tie.Need-same-length-2
+same-length-2 c = search needs
+
+returns-3 : tie.Need-returns-3
+returns-3 c = λ d s. print-all _ _ _ _ d s _ _ _ (c .before .before .before .before .before .before .before .before .before .before .before .before .before .before .before .before .copy-segments .ensures _ (s .held)) _ _ (c .before .before .before .before .before .before .before .before .before .before .before .before .before .if1 .left) _ _ _ _ _ (c .before .before .before .before .before .before .before .before .before .before .before .before .before .before .before .before .before .before .before .before .before .pre .1 .1) (c .before .before .before .before .before .before .before .before .before .count .ensures) (c .before .before .before .before .before .before .before .tell .ensures .0) (c .before .before .before .before .before .before .before .tell .ensures .1) (c .before .before .print-mappings2 .ensures)
+
+pub print-spec : {M : Type 1} → statement M
+print-spec =
+    tie.close
+    (tie.spec
+    slice-aggregate-copy-segments
+    copy-segments-requires
+    slice-aggregate-print-mappings
+    print-mappings-requires
+    same-length
+    returns
+    has-room-requires
+    returns-2
+    slice-aggregate-count
+    count-requires
+    tell-requires
+    slice-aggregate-print-mappings-2
+    print-mappings-requires-2
+    same-length-2
+    returns-3)
