@@ -43,3 +43,5 @@ pub mod ScriptTasks
 pub mod ScriptHears
 pub mod ScriptPrints
 pub mod ScriptGoing
+pub mod ScriptWhole
+pub mod ScriptRuns

@@ -243,20 +243,20 @@ module _ (calls : List Call) (c : Script) (input out words next links gens : Lis
 
     -- a line is answered
     module _ (words′ next′ links′ gens′ : List ℕ) (t′ : Tables) (later : List Call) (now′ : List ℕ) (r : Progress) (a : Answer)
-        (o : now′ ≡ sets now (p .at) (answerLine a)) (q : r ≡ told moved 25) where
+        (o : now′ ≡ sets now (p .at) (answerLine a)) (q : r ≡ told moved 25) (room : p .at + 25 ≤ length now) where
       answered : Grown words′ next′ links′ gens′ t′ later → taskPrints (after (g .later)) (h .task) ≡ answerLine a ∷ [] → after later ≡ taskLeaves (after (g .later)) (h .task)
           → Going calls c input out words′ next′ links′ gens′ t′ line′ now′ r
       answered grown e s = rw q
           (heard words′ next′ links′ gens′ t′ later now′ (told moved 25) (answerLine a ∷ []) grown
-          (adds-one now p (told moved 25) now′ (answerLine a) 25 (length-answer a) (omega arith) (g .adds .counted) o refl refl)
+          (adds-one now p (told moved 25) now′ (answerLine a) 25 (length-answer a) (omega arith) (g .adds .counted) o refl refl room)
           (e ∙ ap (λ (x : List (List ℕ)). answerLine a ∷ x) (sym (owed-none (after later) (p .compartment) (p .from) k))) s refl refl f (g .nobody))
 
     -- nothing is to do but to answer
     pub going-tell : (now′ : List ℕ) (r : Progress) (a : Answer) → h .task ≡ Tell a → now′ ≡ sets now (p .at) (answerLine a) → r ≡ told moved 25
-        → Going calls c input out words next links gens t line′ now′ r
+        → p .at + 25 ≤ length now → Going calls c input out words next links gens t line′ now′ r
     unfolding taskPrints taskLeaves
-    going-tell now′ r a e o q =
-        answered words next links gens t (g .later) now′ r a o q (g .grown) (rw e) (rw e)
+    going-tell now′ r a e o q room =
+        answered words next links gens t (g .later) now′ r a o q room (g .grown) (rw e) (rw e)
 
     -- the line goes on in the next piece
     pub going-part : h .task ≡ Nothing → Going calls c input out words next links gens t line′ now moved
@@ -287,15 +287,15 @@ module _ (calls : List Call) (c : Script) (input out words next links gens : Lis
 
       pub going-regions : (d : RegionTracker) (words′ next′ links′ gens′ : List ℕ) (u : RegionChanged) (now′ : List ℕ) (r : Progress)
           → OnRegions x (getD (t .trackers) j d) (t .arena) words next links gens words′ next′ links′ gens′ u
-          → now′ ≡ sets now (p .at) (answerLine (u .answer)) → r ≡ told moved 25
+          → now′ ≡ sets now (p .at) (answerLine (u .answer)) → r ≡ told moved 25 → p .at + 25 ≤ length now
           → Going calls c input out words′ next′ links′ gens′ (record { arena = u .arena; trackers = set (t .trackers) j (u .tracker); remappers = t .remappers }) line′ now′ r
       unfolding taskPrints taskLeaves
-      going-regions d words′ next′ links′ gens′ u now′ r w o q =
+      going-regions d words′ next′ links′ gens′ u now′ r w o q room =
           let same : compartmentOf x ≡ j = regions-sound .0 in
           let here : getD (t .trackers) (compartmentOf x) noTracker ≡ getD (t .trackers) j d = rw same (sym (at-tracker words next links gens t (g .later) (g .grown) j (regions-sound .1) d)) in
           let v = w (trackersOf t) (g .later) (g .grown .pooled) (regions-sound .2) (omega (arith, regions-sound)) refl here in
           let grown = regions-grown words next links gens t (g .later) (g .grown) x words′ next′ links′ gens′ _ (u .answer) (regions-sound .2) v in
-          answered words′ next′ links′ gens′ (record { arena = u .arena; trackers = set (t .trackers) j (u .tracker); remappers = t .remappers }) (g .later ++ (x ∷ [])) now′ r (u .answer) o q
+          answered words′ next′ links′ gens′ (record { arena = u .arena; trackers = set (t .trackers) j (u .tracker); remappers = t .remappers }) (g .later ++ (x ∷ [])) now′ r (u .answer) o q room
           (rw same at grown) (rw e (ap (λ (y : Answer). answerLine y ∷ []) (sym (v .answered)))) (rw e (after-snoc (g .later) x))
 
     -- a call on segments
@@ -308,16 +308,16 @@ module _ (calls : List Call) (c : Script) (input out words next links gens : Lis
 
       pub going-segments : (d : Remapper) (u : SegmentChanged) (now′ : List ℕ) (r : Progress)
           → OnSegments x (getD (t .remappers) j d) u
-          → now′ ≡ sets now (p .at) (answerLine (u .answer)) → r ≡ told moved 25
+          → now′ ≡ sets now (p .at) (answerLine (u .answer)) → r ≡ told moved 25 → p .at + 25 ≤ length now
           → Going calls c input out words next links gens (record { arena = t .arena; trackers = t .trackers; remappers = set (t .remappers) j (u .remapper) }) line′ now′ r
       unfolding taskPrints taskLeaves
-      going-segments d u now′ r w o q =
+      going-segments d u now′ r w o q room =
           let same : compartmentOf x ≡ j = segments-sound .0 in
           let l : compartmentOf x < 8 = omega (arith, segments-sound) in
           let here : OnSegments x (getD (t .remappers) (compartmentOf x) d) u = rw same w in
           let v = here (used (after (g .later))) (compartment (after (g .later)) (compartmentOf x)) (held words next links gens t (g .later) (g .grown) (compartmentOf x) l d) (segments-sound .2) in
           let grown = segments-grown words next links gens t (g .later) (g .grown) x l (segments-sound .2) d u v in
-          answered words next links gens (record { arena = t .arena; trackers = t .trackers; remappers = set (t .remappers) j (u .remapper) }) (g .later ++ (x ∷ [])) now′ r (u .answer) o q
+          answered words next links gens (record { arena = t .arena; trackers = t .trackers; remappers = set (t .remappers) j (u .remapper) }) (g .later ++ (x ∷ [])) now′ r (u .answer) o q room
           (rw same at grown) (rw e (ap (λ (y : Answer). answerLine y ∷ []) (sym (segments-answer words next links gens t (g .later) (g .grown) x l (segments-sound .2) d u v)))) (rw e (after-snoc (g .later) x))
 
 -- ---- each step leaves less to do
@@ -365,7 +365,7 @@ module _ (c : Script) (at : ℕ) (size : length (c .line) ≡ 88) where
   unfolding due
   same-due s bytes = rw (same-owed s, same-held)
 
-  same-comes : (s : State) (bytes : List ℕ) → comes s (scriptAt (c .line) (started (c .progress) at)) bytes ≡ comes s c bytes
+  pub same-comes : (s : State) (bytes : List ℕ) → comes s (scriptAt (c .line) (started (c .progress) at)) bytes ≡ comes s c bytes
   unfolding comes
   same-comes s bytes = rw same-held
 
@@ -381,6 +381,7 @@ module _ (c : Script) (at : ℕ) (size : length (c .line) ≡ 88) where
       text = g .adds .text ∙ ap (λ (x : Progress). sets out (x .at) (bytesOf (g .lines))) e;
       end = g .adds .end ∙ ap (λ (x : Progress). x .at + length (bytesOf (g .lines))) e;
       many = omega (arith, g .adds .many, ap (λ (x : Progress). x .lines) e);
+      fits = λ l. g .adds .fits (omega (arith, l, ap (λ (x : Progress). x .at) e));
       taken = g .taken;
       whole = λ f. (omega (arith, w .off z f, g .taken), omega (arith, w .off z f, g .nobody));
       stuck = g .stuck;

@@ -56,17 +56,18 @@ finished p = record {
 
 module _ (out : List ℕ) (p r : Progress) where
   pub adds-none : r .at ≡ p .at → r .lines ≡ p .lines → p .lines ≤ p .at → Adds [] out out p r
-  adds-none a n h = record { text = refl; end = omega arith; many = omega arith; counted = omega arith }
+  adds-none a n h = record { text = refl; end = omega arith; many = omega arith; counted = omega arith; fits = λ l. omega arith }
 
   pub adds-one : (out′ line : List ℕ) (n : ℕ) → length line ≡ n → 1 ≤ n → p .lines ≤ p .at → out′ ≡ sets out (p .at) line → r .at ≡ p .at + n
-      → r .lines ≡ p .lines + 1 → Adds (line ∷ []) out out′ p r
-  adds-one out′ line n e l h t a m =
+      → r .lines ≡ p .lines + 1 → p .at + n ≤ length out → Adds (line ∷ []) out out′ p r
+  adds-one out′ line n e l h t a m room =
       let z : line ≡ bytesOf (line ∷ []) = sym (append-nil line) in
       record {
         text = t ∙ ap (sets out (p .at)) z;
         end = a ∙ ap (λ (k : ℕ). p .at + k) (sym e ∙ ap length z);
         many = m;
         counted = omega arith;
+        fits = λ q. omega arith;
       }
 
 module _ (ls ls′ : List (List ℕ)) (out out′ out″ : List ℕ) (p q r : Progress) where
@@ -79,6 +80,9 @@ module _ (ls ls′ : List (List ℕ)) (out out′ out″ : List ℕ) (p q r : Pr
         end = omega (arith, a .end, b .end, ap length all, length-append (bytesOf ls) (bytesOf ls′));
         many = omega (arith, a .many, b .many, length-append ls ls′);
         counted = b .counted;
+        fits = λ l.
+            (let same : length out′ ≡ length out = ap length (a .text) ∙ length-sets out (p .at) (bytesOf ls) in
+            omega (arith, b .fits (omega (arith, a .fits l, same)), same));
       }
 
 pub adds-length : (ls : List (List ℕ)) (out out′ : List ℕ) (p r : Progress) → Adds ls out out′ p r → length out′ ≡ length out
@@ -140,7 +144,7 @@ module _ (ls : List (List ℕ)) (out₀ out : List ℕ) (p₀ p : Progress) (res
     written = i .done;
     left = rest;
     split = i .split;
-    adds = record { text = i .adds .text; end = i .adds .end; many = i .adds .many; counted = i .adds .counted };
+    adds = record { text = i .adds .text; end = i .adds .end; many = i .adds .many; counted = i .adds .counted; fits = i .adds .fits };
     len = i .len;
     used = i .used;
     whole = λ f. (e, refl);
@@ -157,7 +161,7 @@ module _ (ls : List (List ℕ)) (out₀ out : List ℕ) (p₀ p : Progress) (res
           written = i .done;
           left = rest;
           split = i .split;
-          adds = record { text = i .adds .text; end = i .adds .end; many = i .adds .many; counted = i .adds .counted };
+          adds = record { text = i .adds .text; end = i .adds .end; many = i .adds .many; counted = i .adds .counted; fits = i .adds .fits };
           len = i .len;
           used = i .used;
           whole = λ f. absurd (true≢false f);
@@ -178,7 +182,7 @@ module _ (ls : List (List ℕ)) (out₀ out : List ℕ) (p₀ p : Progress) (res
         record {
           done = i .done ++ (line ∷ []);
           split = i .split ∙ ap (λ (x : List (List ℕ)). i .done ++ x) e ∙ sym (append-assoc (i .done) (line ∷ []) more);
-          adds = adds-more (i .done) (line ∷ []) out₀ out out′ p₀ p _ (i .adds) (adds-one out p _ out′ line (length line) refl l (i .adds .counted) (v .2) (v .1) refl);
+          adds = adds-more (i .done) (line ∷ []) out₀ out out′ p₀ p _ (i .adds) (adds-one out p _ out′ line (length line) refl l (i .adds .counted) (v .2) (v .1) refl (v .0));
           from = omega (arith, i .from, length-append (i .done) (line ∷ []));
           len = i .len;
           used = i .used;
@@ -245,7 +249,7 @@ module _ (words next : List ℕ) (t : RegionTracker) (m : Remapper) (c : Compart
 
       -- it is written, and then as many others as fit
       module _ (many : ℕ) (out′ out″ : List ℕ) (q r : Progress) (h : p .lines ≤ p .at) (e : many ≡ length (stream (storedAt next words (t .head)) (segmentsFrom copy 0 n)))
-          (o : out′ ≡ sets out (p .at) (answerLine (Accepted many))) (f : q ≡ told p 25) where
+          (o : out′ ≡ sets out (p .at) (answerLine (Accepted many))) (f : q ≡ told p 25) (room : p .at + 25 ≤ length out) where
         abbrev begun : Progress
         begun = record {
           len = q .len;
@@ -264,7 +268,7 @@ module _ (words next : List ℕ) (t : RegionTracker) (m : Remapper) (c : Compart
             let line : List ℕ = answerLine (Accepted (length (streamOf c))) in
             let o′ : out′ ≡ sets out (p .at) line = o ∙ ap (λ (j : ℕ). sets out (p .at) (answerLine (Accepted j))) (e ∙ ap length print-stream) in
             let one : Adds (line ∷ []) out out′ p begun
-            = adds-one out p begun out′ line 25 (length-answer (Accepted (length (streamOf c)))) (omega arith) h o′ (ap (λ (x : Progress). x .at) f) (ap (λ (x : Progress). x .lines) f) in
+            = adds-one out p begun out′ line 25 (length-answer (Accepted (length (streamOf c)))) (omega arith) h o′ (ap (λ (x : Progress). x .at) f) (ap (λ (x : Progress). x .lines) f) room in
             record {
               written = line ∷ i .written;
               left = i .left;

@@ -7,13 +7,14 @@ use lib.ListN.{length, take, drop, replicate}
 use lib.Seq.{sets}
 use Rattle.definitions.specs.Tests.{_<?_, if_then_else_, each}
 use Rattle.definitions.specs.Calls.{State, after}
-use Rattle.definitions.specs.Script.{call, printed, outputFrom, leftFrom, wholeLines}
+use Rattle.definitions.specs.Script.{call, printed, linesOf, outputFrom, leftFrom, wholeLines}
 use Rattle.definitions.specs.declared.call.Call.{Call}
 use Rattle.definitions.specs.declared.call.Call.the-variants.{Mappings}
 use Rattle.lines.specs.Lines.{linesWith}
 use Rattle.capability_engine.specs.declared.script.Progress.{Progress}
 use Rattle.capability_engine.specs.declared.script.Script.{Script}
 use Rattle.capability_engine.specs.declared.script.Fed.{Fed}
+use Rattle.capability_engine.specs.declared.compartments.Tables.{Tables}
 use Rattle.capability_engine.specs.CompartmentGrown.{Grown}
 
 -- the lines that are still to be written of a P of compartment k, 8 for none, of which so many are written
@@ -50,8 +51,21 @@ pub record Feeds (calls : List Call) (c : Script) (input out : List ℕ) (at : �
   pub text : out' ≡ sets out at (each (λ l. l) lines)
   pub end : r .script .progress .at ≡ at + length (each (λ l. l) lines)
   pub many : r .script .progress .lines ≡ length lines
+  pub fits : at ≤ length out → r .script .progress .at ≤ length out
   pub taken : r .script .progress .used ≤ length input
   -- it stops where all is taken and nothing is owed, or where the next line does not fit
   pub whole : r .script .progress .full ≡ false → (r .script .progress .used ≡ length input) × (r .script .progress .compartment ≡ 8)
   pub stuck : r .script .progress .full ≡ true → (more : List ℕ)
       → (wholeLines (length out - r .script .progress .at) (due (after later) (r .script) (drop (r .script .progress .used) input ++ more)) ≡ [])
+
+-- a piece is run for what it leaves
+pub record Runs (calls : List Call) (c : Script) (input words' next' links' gens' : List ℕ) (r : Fed) : Type 0 where
+  pub later : List Call
+  pub grown : Grown words' next' links' gens' (r .tables) later
+  pub leaves : (more : List ℕ) → comes (after calls) c (input ++ more) ≡ comes (after later) (r .script) more
+
+-- and a whole script
+pub record Replays (calls : List Call) (script words' next' links' gens' : List ℕ) (t : Tables) : Type 0 where
+  pub later : List Call
+  pub grown : Grown words' next' links' gens' t later
+  pub left : after later ≡ leftFrom (after calls) (linesOf script)

@@ -95,6 +95,7 @@ pub record Adds (ls : List (List ℕ)) (out out' : List ℕ) (p r : Progress) : 
   pub end : r .at ≡ p .at + length (bytesOf ls)
   pub many : r .lines ≡ p .lines + length ls
   pub counted : r .lines ≤ r .at
+  pub fits : p .at ≤ length out → r .at ≤ length out
 
 -- one line of so many bytes is written
 abbrev pub told : Progress → ℕ → Progress

@@ -33,7 +33,7 @@ ghost use Rattle.capability_engine.specs.PoolChain.{storedAt};
 ghost use Rattle.capability_engine.specs.SegmentWords.{segmentsFrom};
 ghost use Rattle.capability_engine.specs.StreamCursor.{Table, Whole};
 ghost use Rattle.capability_engine.specs.CompartmentGrown.{Grown, IsGrown};
-ghost use Rattle.capability_engine.specs.ScriptFeed.{begun, Feeds};
+ghost use Rattle.capability_engine.specs.ScriptFeed.{begun, Feeds, Runs, Replays};
 ghost use Rattle.capability_engine.specs.ScriptSteps.{taskOf, Hears, told, Prints, linesOn, Shows, IsShown, started, Goes};
 
 // How many bytes an answer's line has.
@@ -333,5 +333,83 @@ impl Tables {
             },
             script: Script { line, progress: p },
         }
+    }
+
+    // Runs the lines that end in a piece of a script for what they leave: nothing is written.
+    fn run(
+        self,
+        script: Script,
+        input: &[u8],
+        words: &mut [u64],
+        next: &mut [usize],
+        links: &mut [usize],
+        gens: &mut [u64],
+    ) -> Fed
+        requires { ⌜ IsGrown (now words) (now next) (now links) (now gens) self ⌝ }
+        ensures { λ r. ⌜ ((calls : List Call) → Grown (now (words .entry)) (now (next .entry)) (now (links .entry)) (now (gens .entry)) self calls → Runs calls script (now (input .entry)) (now (words .exit)) (now (next .exit)) (now (links .exit)) (now (gens .exit)) r) ⌝ }
+    {
+        let mut arena = self.arena;
+        let mut trackers = self.trackers;
+        let mut remappers = self.remappers;
+        let mut line = script.line;
+        let mut p = begin(script.progress, 0);
+        while p.used < input.len() {
+            let heard = hear(&mut line, p.len, input, p.used);
+            p.len = heard.len;
+            p.used = heard.used;
+            let task = heard.task;
+            match task {
+                Task::Regions(i, call) => {
+                    let tracker = trackers[i];
+                    let r = on_regions(call, tracker, arena, words, next, links, gens);
+                    let changed = r.tracker;
+                    trackers[i] = changed;
+                    arena = r.arena;
+                }
+                Task::Segments(i, call) => {
+                    let remapper = remappers[i];
+                    let r = on_segments(call, remapper);
+                    let changed = r.remapper;
+                    remappers[i] = changed;
+                }
+                Task::Tell(_) => {}
+                Task::Print(_) => {}
+                Task::Nothing => {}
+            }
+        }
+        Fed {
+            tables: Tables {
+                arena,
+                trackers,
+                remappers,
+            },
+            script: Script { line, progress: p },
+        }
+    }
+
+    // The tables after a whole script.
+    pub fn replay(
+        self,
+        script: &[u8],
+        words: &mut [u64],
+        next: &mut [usize],
+        links: &mut [usize],
+        gens: &mut [u64],
+    ) -> Tables
+        requires { ⌜ IsGrown (now words) (now next) (now links) (now gens) self ⌝ }
+        ensures { λ r. ⌜ ((calls : List Call) → Grown (now (words .entry)) (now (next .entry)) (now (links .entry)) (now (gens .entry)) self calls → Replays calls (now (script .entry)) (now (words .exit)) (now (next .exit)) (now (links .exit)) (now (gens .exit)) r) ⌝ }
+    {
+        let begun = Script::new();
+        let ran = self.run(begun, script, words, next, links, gens);
+        let tables = ran.tables;
+        let left = ran.script;
+        let p = left.progress;
+        if p.len == 0 {
+            return tables;
+        }
+        // the last line lacks its end
+        let end = [b'\n'; 1];
+        let last = tables.run(left, &end, words, next, links, gens);
+        last.tables
     }
 }

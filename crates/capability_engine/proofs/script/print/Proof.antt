@@ -51,7 +51,7 @@ same-length-2 : tie.Need-same-length-2
 same-length-2 c = search needs
 
 returns-3 : tie.Need-returns-3
-returns-3 c = λ d s. print-all _ _ _ _ d s _ _ _ (c .before .before .before .before .before .before .before .before .before .before .before .before .before .before .before .before .copy-segments .ensures _ (s .held)) _ _ (c .before .before .before .before .before .before .before .before .before .before .before .before .before .if1 .left) _ _ _ _ _ (c .before .before .before .before .before .before .before .before .before .before .before .before .before .before .before .before .before .before .before .before .before .pre .1 .1) (c .before .before .before .before .before .before .before .before .before .count .ensures) (c .before .before .before .before .before .before .before .tell .ensures .0) (c .before .before .before .before .before .before .before .tell .ensures .1) (c .before .before .print-mappings2 .ensures)
+returns-3 c = λ d s. print-all _ _ _ _ d s _ _ _ (c .before .before .before .before .before .before .before .before .before .before .before .before .before .before .before .before .copy-segments .ensures _ (s .held)) _ _ (c .before .before .before .before .before .before .before .before .before .before .before .before .before .if1 .left) _ _ _ _ _ (c .before .before .before .before .before .before .before .before .before .before .before .before .before .before .before .before .before .before .before .before .before .pre .1 .1) (c .before .before .before .before .before .before .before .before .before .count .ensures) (c .before .before .before .before .before .before .before .tell .ensures .0) (c .before .before .before .before .before .before .before .tell .ensures .1) (room _ _ 25 _ (c .before .before .before .before .before .before .before .before .before .before .before .before .has-room .ensures) (c .before .before .before .before .before .before .before .before .before .before .before .if2 .left)) (c .before .before .print-mappings2 .ensures)
 
 pub print-spec : {M : Type 1} → statement M
 print-spec =

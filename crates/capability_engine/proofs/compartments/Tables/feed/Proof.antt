@@ -75,7 +75,7 @@ loop-less-3 : tie.Need-loop-less-3 Inv-loop μ-loop
 loop-less-3 c = less-told _ _ _ _ (c .before .before .tell .ensures .1) (c .before .before .before .before .before .before .before .before .hear .ensures .ahead) (c .before .before .before .before .before .before .before .before .hear .ensures .taken)
 
 loop-again-3 : tie.Need-loop-again-3 Inv-loop μ-loop
-loop-again-3 c = λ calls g. going-tell _ _ _ _ _ _ _ _ _ _ _ _ (c .before .before .before .before .before .before .before .before .before .before .before .before .before .before .before .loop .inv calls g) (c .before .before .before .before .before .before .before .before .before .before .before .before .if2 .left) (c .before .before .before .before .before .before .before .before .before .before .before .before .before .before .goes-on .ensures .on (c .before .before .before .before .before .before .before .before .before .before .before .before .before .if1 .taken) .0) _ _ (c .before .before .before .before .before .before .before .before .hear .ensures) _ _ _ (c .before .before .before .before .before .task .given .1) (c .before .before .tell .ensures .0) (c .before .before .tell .ensures .1)
+loop-again-3 c = λ calls g. going-tell _ _ _ _ _ _ _ _ _ _ _ _ (c .before .before .before .before .before .before .before .before .before .before .before .before .before .before .before .loop .inv calls g) (c .before .before .before .before .before .before .before .before .before .before .before .before .if2 .left) (c .before .before .before .before .before .before .before .before .before .before .before .before .before .before .goes-on .ensures .on (c .before .before .before .before .before .before .before .before .before .before .before .before .before .if1 .taken) .0) _ _ (c .before .before .before .before .before .before .before .before .hear .ensures) _ _ _ (c .before .before .before .before .before .task .given .1) (c .before .before .tell .ensures .0) (c .before .before .tell .ensures .1) (room _ _ 25 _ (c .before .before .before .before .before .before .before .before .before .before .before .has-room .ensures) (c .before .before .before .before .before .before .before .before .before .before .if3 .left))
 
 enum-known-task-2 : tie.Need-enum-known-task-2 Inv-loop μ-loop
 enum-known-task-2 c = search needs
@@ -102,7 +102,7 @@ loop-less-4 : tie.Need-loop-less-4 Inv-loop μ-loop
 loop-less-4 c = less-told _ _ _ _ (c .before .before .tell2 .ensures .1) (c .before .before .before .before .before .before .before .before .before .before .before .before .before .before .before .before .before .before .before .before .before .before .before .before .hear .ensures .ahead) (c .before .before .before .before .before .before .before .before .before .before .before .before .before .before .before .before .before .before .before .before .before .before .before .before .hear .ensures .taken)
 
 loop-again-4 : tie.Need-loop-again-4 Inv-loop μ-loop
-loop-again-4 c = λ calls g. going-regions _ _ _ _ _ _ _ _ _ _ _ _ (c .before .before .before .before .before .before .before .before .before .before .before .before .before .before .before .before .before .before .before .before .before .before .before .before .before .before .before .before .before .before .before .loop .inv calls g) (c .before .before .before .before .before .before .before .before .before .before .before .before .before .before .before .before .before .before .before .before .before .before .before .before .before .before .before .before .if2 .left) (c .before .before .before .before .before .before .before .before .before .before .before .before .before .before .before .before .before .before .before .before .before .before .before .before .before .before .before .before .before .before .goes-on .ensures .on (c .before .before .before .before .before .before .before .before .before .before .before .before .before .before .before .before .before .before .before .before .before .before .before .before .before .before .before .before .before .if1 .taken) .0) _ _ (c .before .before .before .before .before .before .before .before .before .before .before .before .before .before .before .before .before .before .before .before .before .before .before .before .hear .ensures) _ _ (c .before .before .before .before .before .before .before .before .before .before .before .before .before .before .before .before .before .before .before .before .before .task2 .given .1) _ _ _ _ _ _ _ _ (c .before .before .before .before .before .before .before .before .before .before .before .before .before .before .on-regions .ensures) (c .before .before .tell2 .ensures .0) (c .before .before .tell2 .ensures .1)
+loop-again-4 c = λ calls g. going-regions _ _ _ _ _ _ _ _ _ _ _ _ (c .before .before .before .before .before .before .before .before .before .before .before .before .before .before .before .before .before .before .before .before .before .before .before .before .before .before .before .before .before .before .before .loop .inv calls g) (c .before .before .before .before .before .before .before .before .before .before .before .before .before .before .before .before .before .before .before .before .before .before .before .before .before .before .before .before .if2 .left) (c .before .before .before .before .before .before .before .before .before .before .before .before .before .before .before .before .before .before .before .before .before .before .before .before .before .before .before .before .before .before .goes-on .ensures .on (c .before .before .before .before .before .before .before .before .before .before .before .before .before .before .before .before .before .before .before .before .before .before .before .before .before .before .before .before .before .if1 .taken) .0) _ _ (c .before .before .before .before .before .before .before .before .before .before .before .before .before .before .before .before .before .before .before .before .before .before .before .before .hear .ensures) _ _ (c .before .before .before .before .before .before .before .before .before .before .before .before .before .before .before .before .before .before .before .before .before .task2 .given .1) _ _ _ _ _ _ _ _ (c .before .before .before .before .before .before .before .before .before .before .before .before .before .before .on-regions .ensures) (c .before .before .tell2 .ensures .0) (c .before .before .tell2 .ensures .1) (room _ _ 25 _ (c .before .before .before .before .before .before .before .before .before .before .before .before .before .before .before .before .before .before .before .before .before .before .before .before .before .before .before .has-room .ensures) (c .before .before .before .before .before .before .before .before .before .before .before .before .before .before .before .before .before .before .before .before .before .before .before .before .before .before .if3 .left))
 
 enum-known-task-3 : tie.Need-enum-known-task-3 Inv-loop μ-loop
 enum-known-task-3 c = search needs
@@ -129,7 +129,7 @@ loop-less-5 : tie.Need-loop-less-5 Inv-loop μ-loop
 loop-less-5 c = less-told _ _ _ _ (c .before .before .tell3 .ensures .1) (c .before .before .before .before .before .before .before .before .before .before .before .hear .ensures .ahead) (c .before .before .before .before .before .before .before .before .before .before .before .hear .ensures .taken)
 
 loop-again-5 : tie.Need-loop-again-5 Inv-loop μ-loop
-loop-again-5 c = λ calls g. going-segments _ _ _ _ _ _ _ _ _ _ _ _ (c .before .before .before .before .before .before .before .before .before .before .before .before .before .before .before .before .before .before .loop .inv calls g) (c .before .before .before .before .before .before .before .before .before .before .before .before .before .before .before .if2 .left) (c .before .before .before .before .before .before .before .before .before .before .before .before .before .before .before .before .before .goes-on .ensures .on (c .before .before .before .before .before .before .before .before .before .before .before .before .before .before .before .before .if1 .taken) .0) _ _ (c .before .before .before .before .before .before .before .before .before .before .before .hear .ensures) _ _ (c .before .before .before .before .before .before .before .before .task3 .given .1) _ _ _ _ (c .before .before .before .before .before .on-segments .ensures) (c .before .before .tell3 .ensures .0) (c .before .before .tell3 .ensures .1)
+loop-again-5 c = λ calls g. going-segments _ _ _ _ _ _ _ _ _ _ _ _ (c .before .before .before .before .before .before .before .before .before .before .before .before .before .before .before .before .before .before .loop .inv calls g) (c .before .before .before .before .before .before .before .before .before .before .before .before .before .before .before .if2 .left) (c .before .before .before .before .before .before .before .before .before .before .before .before .before .before .before .before .before .goes-on .ensures .on (c .before .before .before .before .before .before .before .before .before .before .before .before .before .before .before .before .if1 .taken) .0) _ _ (c .before .before .before .before .before .before .before .before .before .before .before .hear .ensures) _ _ (c .before .before .before .before .before .before .before .before .task3 .given .1) _ _ _ _ (c .before .before .before .before .before .on-segments .ensures) (c .before .before .tell3 .ensures .0) (c .before .before .tell3 .ensures .1) (room _ _ 25 _ (c .before .before .before .before .before .before .before .before .before .before .before .before .before .before .has-room .ensures) (c .before .before .before .before .before .before .before .before .before .before .before .before .before .if3 .left))
 
 enum-known-task-4 : tie.Need-enum-known-task-4 Inv-loop μ-loop
 enum-known-task-4 c = search needs
