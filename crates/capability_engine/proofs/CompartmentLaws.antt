@@ -64,7 +64,7 @@ holds-used nx ws (t ∷ ts) [] h = absurd h
 holds-used nx ws (t ∷ ts) (c ∷ cs) h =
     ap₂ _+_ (sym (ap length (h .0 .shown)) ∙ length-map (slots nx (t .head)) (regionAt ws)) (holds-used nx ws ts cs (h .1))
 
-holds-long : (nx ws : List ℕ) (ts : List RegionTracker) (cs : State) → Holds nx ws ts cs → length ts ≡ length cs
+pub holds-long : (nx ws : List ℕ) (ts : List RegionTracker) (cs : State) → Holds nx ws ts cs → length ts ≡ length cs
 holds-long nx ws [] [] h = refl
 holds-long nx ws [] (c ∷ cs) h = absurd h
 holds-long nx ws (t ∷ ts) [] h = absurd h

@@ -45,3 +45,4 @@ pub mod ScriptPrints
 pub mod ScriptGoing
 pub mod ScriptWhole
 pub mod ScriptRuns
+pub mod ScriptPieces

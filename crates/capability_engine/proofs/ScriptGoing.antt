@@ -38,6 +38,8 @@ use Rattle.capability_engine.specs.CompartmentSteps.{onRegions, onSegmen
 use Rattle.capability_engine.specs.ScriptFeed.{owed, due, comes, Feeds}
 use Rattle.capability_engine.specs.ScriptSteps.{taskPrints, taskLeaves, Hears, bytesOf, Adds, told, Prints, linesOn, Shows, started, Goes}
 use Rattle.capability_engine.proofs.PoolOwns.{bit-le}
+use Rattle.capability_engine.proofs.CompartmentLaws.{holds-long}
+use Rattle.capability_engine.proofs.CompartmentCalls.{getD-any}
 use Rattle.capability_engine.proofs.CompartmentFacts.{tracked, held, whole, stored-is, table, regions-grown, segments-answer, segments-grown}
 use Rattle.capability_engine.proofs.ScriptPrints.{stopped, adds-none, adds-one, adds-more, adds-length, none-whole}
 
@@ -112,18 +114,6 @@ module _ (calls : List Call) (line : List ℕ) (p : Progress) (input out words n
 
 -- ---- a P goes on
 
--- the tracker and the remapper of a compartment, as the arrays have them
-getD-any : {A : Type 0} (l : List A) (k : ℕ) (d e : A) → k < length l → getD l k d ≡ getD l k e
-getD-any [] k d e h = absurd (omega arith)
-getD-any (x ∷ l) zero d e h = refl
-getD-any (x ∷ l) (suc k) d e h = getD-any l k d e (omega arith)
-
-holds-length : (nx ws : List ℕ) (ts : List RegionTracker) (cs : State) → Holds nx ws ts cs → length ts ≡ length cs
-holds-length nx ws [] [] h = refl
-holds-length nx ws [] (c ∷ cs) h = absurd h
-holds-length nx ws (t ∷ ts) [] h = absurd h
-holds-length nx ws (t ∷ ts) (c ∷ cs) h = ap suc (holds-length nx ws ts cs (h .1))
-
 -- the slices of the pool keep their lengths
 pub sized : (words next links gens : List ℕ) (t : Tables) (calls : List Call) → Grown words next links gens t calls → Sized words next links gens
 sized words next links gens t calls g = (g .pooled .wordsSize, g .pooled .nextSize, g .pooled .arena .grown .list .size, g .pooled .arena .grown .size)
@@ -132,7 +122,7 @@ module _ (words next links gens : List ℕ) (t : Tables) (calls : List Call) (g 
   pub at-tracker : (d : RegionTracker) → getD (t .trackers) k d ≡ getD (t .trackers) k noTracker
   at-tracker d =
       getD-any (t .trackers) k d noTracker
-      (omega (arith, holds-length next words (t .trackers) (after calls) (g .pooled .holds), length-after calls))
+      (omega (arith, holds-long next words (t .trackers) (after calls) (g .pooled .holds), length-after calls))
 
   pub shown : (d : RegionTracker) (e : Remapper) → Shows words next (getD (t .trackers) k d) (getD (t .remappers) k e) (compartment (after calls) k)
   shown d e = rw (at-tracker d) (record {

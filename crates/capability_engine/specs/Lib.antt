@@ -16,3 +16,4 @@ pub mod CompartmentSteps
 pub mod WholeStream
 pub mod ScriptFeed
 pub mod ScriptSteps
+pub mod ScriptPieces
