@@ -1,0 +1,466 @@
+// Runs layouts of document 01 that concern regions over the public calls, and writes each answer: the call, its answer's
+// number and its value. Then the pool is filled, from one compartment and from all, and emptied.
+use capability_engine::Trackers;
+use definitions::Answer;
+use definitions::HostAddr;
+use libc::STDOUT_FILENO;
+ghost use Rattle.capability_engine.specs.CompartmentGrown.{IsGrown};
+ghost use Prim.Native.Nat.{_+_, _*_, _<_, _≤_};
+ghost use lib.ListN.{length};
+
+// Five numbers a row: the call (0 fresh tables, 1 add, 2 remove, 3 get_refcount, 4 permissions), the compartment, and its
+// start, end and rights, or the permission to read from.
+const LAYOUTS: [u64; 190] = [
+    1,
+    0,
+    0,
+    10,
+    1, // records [0,5) 1, [5,10) 3, [10,15) 3, unjoined
+    1,
+    0,
+    5,
+    15,
+    3,
+    4,
+    0,
+    0,
+    0,
+    0,
+    2,
+    0,
+    5,
+    15,
+    3, // one record [0,10) 1
+    4,
+    0,
+    0,
+    0,
+    0,
+    0,
+    0,
+    0,
+    0,
+    0,
+    1,
+    0,
+    0,
+    10,
+    1, // uncacheable is not counted
+    1,
+    0,
+    0,
+    10,
+    17,
+    4,
+    0,
+    0,
+    0,
+    0,
+    0,
+    0,
+    0,
+    0,
+    0,
+    1,
+    0,
+    0,
+    10,
+    17,
+    1,
+    0,
+    0,
+    10,
+    1,
+    2,
+    0,
+    0,
+    10,
+    17,
+    4,
+    0,
+    0,
+    0,
+    0,
+    0,
+    0,
+    0,
+    0,
+    0,
+    2,
+    0,
+    12,
+    25,
+    1, // on an empty table 6
+    1,
+    0,
+    0,
+    10,
+    1,
+    1,
+    0,
+    20,
+    30,
+    1,
+    2,
+    0,
+    12,
+    25,
+    1, // 7
+    2,
+    0,
+    0,
+    25,
+    1, // over the gap, leaves [25,30)
+    4,
+    0,
+    0,
+    0,
+    0,
+    3,
+    0,
+    0,
+    30,
+    0,
+    3,
+    0,
+    0,
+    25,
+    0,
+    3,
+    1,
+    0,
+    30,
+    0,
+    2,
+    0,
+    25,
+    30,
+    2, // 8
+    1,
+    0,
+    25,
+    25,
+    1, // an empty range
+    1,
+    0,
+    30,
+    25,
+    1, // 3
+    1,
+    0,
+    30,
+    25,
+    32, // 2
+    1,
+    8,
+    0,
+    1,
+    1, // 1
+    1,
+    0,
+    0,
+    18446744073709551615,
+    31,
+    4,
+    0,
+    1,
+    0,
+    0, // from the second on
+    4,
+    0,
+    4,
+    0,
+    0, // past the last
+    4,
+    8,
+    0,
+    0,
+    0,
+    2,
+    7,
+    0,
+    1,
+    1, // another compartment is empty
+    1,
+    7,
+    0,
+    1,
+    8,
+    4,
+    7,
+    0,
+    0,
+    0,
+    3,
+    0,
+    27,
+    28,
+    0,
+    0,
+    0,
+    0,
+    0,
+    0,
+];
+
+fn text(bytes: &[u8]) {
+    io::write_all(STDOUT_FILENO, bytes);
+}
+
+fn number(n: u64) {
+    text(b" ");
+    io::print_decimal(STDOUT_FILENO, n);
+}
+
+// An answer's number and value, if told to.
+fn show(answer: Answer, shown: bool) {
+    if shown {
+        text(b":");
+        number(answer.number());
+        number(answer.value());
+        text(b"\n");
+    }
+}
+
+// Adds or removes a range, and writes the answer if told to.
+fn change(
+    t: Trackers,
+    adds: bool,
+    k: u64,
+    start: u64,
+    end: u64,
+    rights: u64,
+    shown: bool,
+    words: &mut [u64],
+    next: &mut [usize],
+    links: &mut [usize],
+    gens: &mut [u64],
+) -> Trackers
+    requires { ⌜ IsGrown (now words) (now next) (now links) (now gens) t ⌝ }
+    ensures { λ r. ⌜ IsGrown (now (words .exit)) (now (next .exit)) (now (links .exit)) (now (gens .exit)) r ⌝ }
+{
+    if adds {
+        let o = t.add(
+            k,
+            HostAddr(start),
+            HostAddr(end),
+            rights,
+            words,
+            next,
+            links,
+            gens,
+        );
+        let answer = o.answer;
+        show(answer, shown);
+        return o.trackers;
+    }
+    let o = t.remove(
+        k,
+        HostAddr(start),
+        HostAddr(end),
+        rights,
+        words,
+        next,
+        links,
+        gens,
+    );
+    let answer = o.answer;
+    show(answer, shown);
+    o.trackers
+}
+
+fn count(
+    t: Trackers,
+    k: u64,
+    start: u64,
+    end: u64,
+    words: &[u64],
+    next: &[usize],
+    links: &[usize],
+    gens: &[u64],
+)
+    requires { ⌜ IsGrown (now words) (now next) (now links) (now gens) t ⌝ }
+{
+    let answer = t.get_refcount(k, HostAddr(start), HostAddr(end), words, next, links, gens);
+    show(answer, true);
+}
+
+// A page of at most three permissions, from a place on: the whole slice is written, with 7 where nothing was read.
+fn permissions(
+    t: Trackers,
+    k: u64,
+    from: u64,
+    words: &[u64],
+    next: &[usize],
+    links: &[usize],
+    gens: &[u64],
+)
+    requires { ⌜ IsGrown (now words) (now next) (now links) (now gens) t ⌝ }
+{
+    let mut out = [7u64; 11];
+    let page: &mut [u64] = &mut out;
+    let answer = t.permissions(k, from as usize, page, words, next, links, gens);
+    show(answer, true);
+    let mut i = 0;
+    while i < page.len() {
+        number(page[i]);
+        i += 1;
+    }
+    text(b"\n");
+}
+
+// Fresh tables over the same slices.
+fn fresh(
+    t: Trackers,
+    words: &[u64],
+    next: &[usize],
+    links: &mut [usize],
+    gens: &mut [u64],
+) -> Trackers
+    requires { ⌜ IsGrown (now words) (now next) (now links) (now gens) t ⌝ }
+    ensures { λ r. ⌜ IsGrown (now (words .entry)) (now (next .entry)) (now (links .exit)) (now (gens .exit)) r ⌝ }
+{
+    text(b"\n");
+    let made = Trackers::new(words, next, links, gens);
+    if made.done {
+        return made.trackers;
+    }
+    t
+}
+
+// Row i of the layouts.
+fn row(
+    t: Trackers,
+    i: usize,
+    words: &mut [u64],
+    next: &mut [usize],
+    links: &mut [usize],
+    gens: &mut [u64],
+) -> Trackers
+    requires { ⌜ i < 38 ⌝ }
+    requires { ⌜ IsGrown (now words) (now next) (now links) (now gens) t ⌝ }
+    ensures { λ r. ⌜ IsGrown (now (words .exit)) (now (next .exit)) (now (links .exit)) (now (gens .exit)) r ⌝ }
+{
+    let at = 5 * i;
+    let call = LAYOUTS[at];
+    let k = LAYOUTS[at + 1];
+    let start = LAYOUTS[at + 2];
+    let end = LAYOUTS[at + 3];
+    let rights = LAYOUTS[at + 4];
+    if call == 0 {
+        return fresh(t, words, next, links, gens);
+    }
+    number(call);
+    number(k);
+    number(start);
+    number(end);
+    number(rights);
+    if call == 3 {
+        count(t, k, start, end, words, next, links, gens);
+        return t;
+    }
+    if call == 4 {
+        permissions(t, k, start, words, next, links, gens);
+        return t;
+    }
+    change(
+        t,
+        call == 1,
+        k,
+        start,
+        end,
+        rights,
+        true,
+        words,
+        next,
+        links,
+        gens,
+    )
+}
+
+// Adds or removes the single addresses 0, 2, .. 2046, of the compartments 0 to many - 1 in turn.
+fn singles(
+    t: Trackers,
+    adds: bool,
+    many: u64,
+    words: &mut [u64],
+    next: &mut [usize],
+    links: &mut [usize],
+    gens: &mut [u64],
+) -> Trackers
+    requires { ⌜ (1 ≤ many) ⌝ }
+    requires { ⌜ IsGrown (now words) (now next) (now links) (now gens) t ⌝ }
+    ensures { λ r. ⌜ IsGrown (now (words .exit)) (now (next .exit)) (now (links .exit)) (now (gens .exit)) r ⌝ }
+{
+    let mut t = t;
+    let mut i: u64 = 0;
+    while i < 1024 {
+        let shown = i % 256 == 255;
+        if shown {
+            number(i);
+        }
+        t = change(
+            t,
+            adds,
+            i % many,
+            2 * i,
+            2 * i + 1,
+            1,
+            shown,
+            words,
+            next,
+            links,
+            gens,
+        );
+        i += 1;
+    }
+    t
+}
+
+// With 1,024 records in use, what needs none more is accepted, and what needs one is 5; then all are removed.
+fn crowd(
+    t: Trackers,
+    many: u64,
+    words: &mut [u64],
+    next: &mut [usize],
+    links: &mut [usize],
+    gens: &mut [u64],
+) -> Trackers
+    requires { ⌜ (1 ≤ many) ⌝ }
+    requires { ⌜ IsGrown (now words) (now next) (now links) (now gens) t ⌝ }
+    ensures { λ r. ⌜ IsGrown (now (words .exit)) (now (next .exit)) (now (links .exit)) (now (gens .exit)) r ⌝ }
+{
+    let full = singles(t, true, many, words, next, links, gens);
+    let same = change(full, true, 0, 0, 1, 1, true, words, next, links, gens);
+    let over = change(same, true, 0, 0, 2, 1, true, words, next, links, gens);
+    let other = change(over, true, 7, 4096, 4097, 1, true, words, next, links, gens);
+    let back = change(other, false, 0, 0, 1, 1, true, words, next, links, gens);
+    let none = singles(back, false, many, words, next, links, gens);
+    let last = change(none, true, 7, 0, 4096, 3, true, words, next, links, gens);
+    permissions(last, 7, 0, words, next, links, gens);
+    fresh(last, words, next, links, gens)
+}
+
+fn run(t: Trackers, words: &mut [u64], next: &mut [usize], links: &mut [usize], gens: &mut [u64])
+    requires { ⌜ IsGrown (now words) (now next) (now links) (now gens) t ⌝ }
+{
+    let mut t = t;
+    let mut i: usize = 0;
+    while i < 38 {
+        t = row(t, i, words, next, links, gens);
+        i += 1;
+    }
+    let one = crowd(t, 1, words, next, links, gens);
+    crowd(one, 8, words, next, links, gens);
+}
+
+fn main() {
+    let mut words = [0u64; 8192];
+    let mut next = [0usize; 1025];
+    let mut links = [0usize; 1024];
+    let mut gens = [0u64; 1024];
+    let made = Trackers::new(&words, &next, &mut links, &mut gens);
+    if made.done {
+        run(made.trackers, &mut words, &mut next, &mut links, &mut gens);
+    }
+}
