@@ -1,12 +1,11 @@
 // Runs layouts of document 01 that concern regions over the public calls, and writes each answer: the call, its answer's
 // number and its value. Then the pool is filled, from one compartment and from all, and emptied.
-use capability_engine::Trackers;
+use capability_engine::Tables;
 use definitions::Answer;
 use definitions::HostAddr;
 use libc::STDOUT_FILENO;
 ghost use Rattle.capability_engine.specs.CompartmentGrown.{IsGrown};
-ghost use Prim.Native.Nat.{_+_, _*_, _<_, _≤_};
-ghost use lib.ListN.{length};
+ghost use Prim.Native.Nat.{_<_, _≤_};
 
 // Five numbers a row: the call (0 fresh tables, 1 add, 2 remove, 3 get_refcount, 4 permissions), the compartment, and its
 // start, end and rights, or the permission to read from.
@@ -224,7 +223,7 @@ fn show(answer: Answer, shown: bool) {
 
 // Adds or removes a range, and writes the answer if told to.
 fn change(
-    t: Trackers,
+    t: Tables,
     adds: bool,
     k: u64,
     start: u64,
@@ -235,42 +234,26 @@ fn change(
     next: &mut [usize],
     links: &mut [usize],
     gens: &mut [u64],
-) -> Trackers
+) -> Tables
     requires { ⌜ IsGrown (now words) (now next) (now links) (now gens) t ⌝ }
     ensures { λ r. ⌜ IsGrown (now (words .exit)) (now (next .exit)) (now (links .exit)) (now (gens .exit)) r ⌝ }
 {
+    let start = HostAddr(start);
+    let end = HostAddr(end);
     if adds {
-        let o = t.add(
-            k,
-            HostAddr(start),
-            HostAddr(end),
-            rights,
-            words,
-            next,
-            links,
-            gens,
-        );
+        let o = t.add(k, start, end, rights, words, next, links, gens);
         let answer = o.answer;
         show(answer, shown);
-        return o.trackers;
+        return o.tables;
     }
-    let o = t.remove(
-        k,
-        HostAddr(start),
-        HostAddr(end),
-        rights,
-        words,
-        next,
-        links,
-        gens,
-    );
+    let o = t.remove(k, start, end, rights, words, next, links, gens);
     let answer = o.answer;
     show(answer, shown);
-    o.trackers
+    o.tables
 }
 
 fn count(
-    t: Trackers,
+    t: Tables,
     k: u64,
     start: u64,
     end: u64,
@@ -287,7 +270,7 @@ fn count(
 
 // A page of at most three permissions, from a place on: the whole slice is written, with 7 where nothing was read.
 fn permissions(
-    t: Trackers,
+    t: Tables,
     k: u64,
     from: u64,
     words: &[u64],
@@ -310,33 +293,27 @@ fn permissions(
 }
 
 // Fresh tables over the same slices.
-fn fresh(
-    t: Trackers,
-    words: &[u64],
-    next: &[usize],
-    links: &mut [usize],
-    gens: &mut [u64],
-) -> Trackers
+fn fresh(t: Tables, words: &[u64], next: &[usize], links: &mut [usize], gens: &mut [u64]) -> Tables
     requires { ⌜ IsGrown (now words) (now next) (now links) (now gens) t ⌝ }
     ensures { λ r. ⌜ IsGrown (now (words .entry)) (now (next .entry)) (now (links .exit)) (now (gens .exit)) r ⌝ }
 {
     text(b"\n");
-    let made = Trackers::new(words, next, links, gens);
+    let made = Tables::new(words, next, links, gens);
     if made.done {
-        return made.trackers;
+        return made.tables;
     }
     t
 }
 
 // Row i of the layouts.
 fn row(
-    t: Trackers,
+    t: Tables,
     i: usize,
     words: &mut [u64],
     next: &mut [usize],
     links: &mut [usize],
     gens: &mut [u64],
-) -> Trackers
+) -> Tables
     requires { ⌜ i < 38 ⌝ }
     requires { ⌜ IsGrown (now words) (now next) (now links) (now gens) t ⌝ }
     ensures { λ r. ⌜ IsGrown (now (words .exit)) (now (next .exit)) (now (links .exit)) (now (gens .exit)) r ⌝ }
@@ -344,50 +321,39 @@ fn row(
     let at = 5 * i;
     let call = LAYOUTS[at];
     let k = LAYOUTS[at + 1];
-    let start = LAYOUTS[at + 2];
-    let end = LAYOUTS[at + 3];
+    let from = LAYOUTS[at + 2];
+    let to = LAYOUTS[at + 3];
     let rights = LAYOUTS[at + 4];
     if call == 0 {
         return fresh(t, words, next, links, gens);
     }
     number(call);
     number(k);
-    number(start);
-    number(end);
+    number(from);
+    number(to);
     number(rights);
     if call == 3 {
-        count(t, k, start, end, words, next, links, gens);
+        count(t, k, from, to, words, next, links, gens);
         return t;
     }
     if call == 4 {
-        permissions(t, k, start, words, next, links, gens);
+        permissions(t, k, from, words, next, links, gens);
         return t;
     }
-    change(
-        t,
-        call == 1,
-        k,
-        start,
-        end,
-        rights,
-        true,
-        words,
-        next,
-        links,
-        gens,
-    )
+    let adds = call == 1;
+    change(t, adds, k, from, to, rights, true, words, next, links, gens)
 }
 
 // Adds or removes the single addresses 0, 2, .. 2046, of the compartments 0 to many - 1 in turn.
 fn singles(
-    t: Trackers,
+    t: Tables,
     adds: bool,
     many: u64,
     words: &mut [u64],
     next: &mut [usize],
     links: &mut [usize],
     gens: &mut [u64],
-) -> Trackers
+) -> Tables
     requires { ⌜ (1 ≤ many) ⌝ }
     requires { ⌜ IsGrown (now words) (now next) (now links) (now gens) t ⌝ }
     ensures { λ r. ⌜ IsGrown (now (words .exit)) (now (next .exit)) (now (links .exit)) (now (gens .exit)) r ⌝ }
@@ -417,31 +383,59 @@ fn singles(
     t
 }
 
-// With 1,024 records in use, what needs none more is accepted, and what needs one is 5; then all are removed.
+// With 1,024 records in use, what needs none more is accepted, and what needs one is 5.
+fn crowded(
+    t: Tables,
+    words: &mut [u64],
+    next: &mut [usize],
+    links: &mut [usize],
+    gens: &mut [u64],
+) -> Tables
+    requires { ⌜ IsGrown (now words) (now next) (now links) (now gens) t ⌝ }
+    ensures { λ r. ⌜ IsGrown (now (words .exit)) (now (next .exit)) (now (links .exit)) (now (gens .exit)) r ⌝ }
+{
+    let same = change(t, true, 0, 0, 1, 1, true, words, next, links, gens);
+    let over = change(same, true, 0, 0, 2, 1, true, words, next, links, gens);
+    let other = change(over, true, 7, 4096, 4097, 1, true, words, next, links, gens);
+    change(other, false, 0, 0, 1, 1, true, words, next, links, gens)
+}
+
+// With all removed, a long range is accepted again; then fresh tables.
+fn cleared(
+    t: Tables,
+    words: &mut [u64],
+    next: &mut [usize],
+    links: &mut [usize],
+    gens: &mut [u64],
+) -> Tables
+    requires { ⌜ IsGrown (now words) (now next) (now links) (now gens) t ⌝ }
+    ensures { λ r. ⌜ IsGrown (now (words .exit)) (now (next .exit)) (now (links .exit)) (now (gens .exit)) r ⌝ }
+{
+    let last = change(t, true, 7, 0, 4096, 3, true, words, next, links, gens);
+    permissions(last, 7, 0, words, next, links, gens);
+    fresh(last, words, next, links, gens)
+}
+
+// Fills the pool from that many compartments, and empties it.
 fn crowd(
-    t: Trackers,
+    t: Tables,
     many: u64,
     words: &mut [u64],
     next: &mut [usize],
     links: &mut [usize],
     gens: &mut [u64],
-) -> Trackers
+) -> Tables
     requires { ⌜ (1 ≤ many) ⌝ }
     requires { ⌜ IsGrown (now words) (now next) (now links) (now gens) t ⌝ }
     ensures { λ r. ⌜ IsGrown (now (words .exit)) (now (next .exit)) (now (links .exit)) (now (gens .exit)) r ⌝ }
 {
     let full = singles(t, true, many, words, next, links, gens);
-    let same = change(full, true, 0, 0, 1, 1, true, words, next, links, gens);
-    let over = change(same, true, 0, 0, 2, 1, true, words, next, links, gens);
-    let other = change(over, true, 7, 4096, 4097, 1, true, words, next, links, gens);
-    let back = change(other, false, 0, 0, 1, 1, true, words, next, links, gens);
+    let back = crowded(full, words, next, links, gens);
     let none = singles(back, false, many, words, next, links, gens);
-    let last = change(none, true, 7, 0, 4096, 3, true, words, next, links, gens);
-    permissions(last, 7, 0, words, next, links, gens);
-    fresh(last, words, next, links, gens)
+    cleared(none, words, next, links, gens)
 }
 
-fn run(t: Trackers, words: &mut [u64], next: &mut [usize], links: &mut [usize], gens: &mut [u64])
+fn run(t: Tables, words: &mut [u64], next: &mut [usize], links: &mut [usize], gens: &mut [u64])
     requires { ⌜ IsGrown (now words) (now next) (now links) (now gens) t ⌝ }
 {
     let mut t = t;
@@ -459,8 +453,8 @@ fn main() {
     let mut next = [0usize; 1025];
     let mut links = [0usize; 1024];
     let mut gens = [0u64; 1024];
-    let made = Trackers::new(&words, &next, &mut links, &mut gens);
+    let made = Tables::new(&words, &next, &mut links, &mut gens);
     if made.done {
-        run(made.trackers, &mut words, &mut next, &mut links, &mut gens);
+        run(made.tables, &mut words, &mut next, &mut links, &mut gens);
     }
 }
