@@ -11,7 +11,7 @@ use Rattle.definitions.specs.declared.call.Call.{Call}
 use Rattle.capability_engine.specs.declared.script.Script.{Script}
 use Rattle.capability_engine.specs.declared.script.Fed.{Fed}
 use Rattle.capability_engine.specs.ScriptFeed.{due, begun, Feeds}
-use Rattle.capability_engine.specs.ScriptPieces.{joined, Writes, fed, comes, ends, done, Statement}
+use Rattle.capability_engine.specs.ScriptPieces.{joined, Writes, fed, arrives, ends, done, Statement}
 use Rattle.capability_engine.proofs.StreamLists.{each-append}
 use Rattle.capability_engine.proofs.ScriptWhole.{due-last, due-done, due-begun}
 
@@ -32,7 +32,7 @@ writes (fed {calls} {c} {bytes} {pieces} {later} {out} {words} {next} {links} {g
     ∙ ap (λ (x : List ℕ). joined (f .lines) ++ x) (writes w)
     ∙ sym (each-append (λ l. l) (f .lines) (due (after (f .later)) (r .script) (drop (r .script .progress .used) bytes ++ joined pieces)))
     ∙ ap joined (sym (f .prints (joined pieces)))
-writes (comes w) = writes w
+writes (arrives w) = writes w
 writes (ends {calls} {c} e l w) = writes w ∙ ap joined (due-last (after calls) c e l)
 writes (done {calls} {c} e z) = ap joined (sym (due-done (after calls) c e z))
 

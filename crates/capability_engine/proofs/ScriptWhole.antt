@@ -21,16 +21,13 @@ use Rattle.lines.proofs.Written.{length-heading}
 use Rattle.capability_engine.specs.declared.script.Script.{Script}
 use Rattle.capability_engine.specs.declared.script.Fed.{Fed}
 use Rattle.capability_engine.specs.ScriptFeed.{held, owed, due, begun, Feeds}
+use Rattle.capability_engine.proofs.StreamLists.{each-append}
 
 abbrev text : List (List ℕ) → List ℕ
 text ls = each (λ l. l) ls
 
 text-length : (l : List ℕ) (ls : List (List ℕ)) → length (text (l ∷ ls)) ≡ length l + length (text ls)
 text-length l ls = length-append l (text ls)
-
-text-append : (xs ys : List (List ℕ)) → text (xs ++ ys) ≡ text xs ++ text ys
-text-append [] ys = refl
-text-append (x ∷ xs) ys = ap (λ t. x ++ t) (text-append xs ys) ∙ sym (append-assoc x (text xs) (text ys))
 
 -- lines that fit, before one that does not
 pub whole-lines : (room : ℕ) (xs ys : List (List ℕ)) → length (text xs) ≤ room → wholeLines (room - length (text xs)) ys ≡ []
@@ -178,7 +175,7 @@ module _ (script out words next links gens out1 : List ℕ) (r : Fed) (room : 25
 
       pub wrote-last : Wrote script out out2 (1 + r .script .progress .lines + q .script .progress .lines)
       wrote-last =
-          let both : text (f .lines ++ h .lines) ≡ text (f .lines) ++ text (h .lines) = text-append (f .lines) (h .lines) in
+          let both : text (f .lines ++ h .lines) ≡ text (f .lines) ++ text (h .lines) = each-append (λ l. l) (f .lines) (h .lines) in
           let n : 1 + length (f .lines ++ h .lines) ≡ 1 + r .script .progress .lines + q .script .progress .lines =
           omega (arith, f .many, h .many, length-append (f .lines) (h .lines)) in
           subst (λ (k : ℕ). Wrote script out out2 k) n

@@ -40,7 +40,8 @@ begun = record {
   progress = record { len = 0; compartment = 8; from = 0; used = 0; at = 0; lines = 0; full = false };
 }
 
--- a piece is taken: what is written, and that with what is due after it this is what was due before
+-- a piece is taken: what is written, and that with what is due after it this is what was due before. Left free: how far a full
+-- output lets the piece be taken, the line's bytes behind those that are held, and `from` where nothing is owed
 pub record Feeds (calls : List Call) (c : Script) (input out : List ℕ) (at : ℕ)
     (words' next' links' gens' out' : List ℕ) (r : Fed) : Type 0 where
   pub later : List Call

@@ -23,7 +23,7 @@ pub data Writes : List Call → Script → List ℕ → List (List ℕ) → List
       → Writes (f .later) (r .script) (drop (r .script .progress .used) bytes) pieces later
       → Writes calls c bytes pieces (take (r .script .progress .at) out' ++ later)
   -- all is taken, and the next piece comes
-  comes : {calls : List Call} {c : Script} {piece : List ℕ} {pieces : List (List ℕ)} {later : List ℕ}
+  arrives : {calls : List Call} {c : Script} {piece : List ℕ} {pieces : List (List ℕ)} {later : List ℕ}
       → Writes calls c piece pieces later → Writes calls c [] (piece ∷ pieces) later
   -- none comes, and a line has begun: it is ended
   ends : {calls : List Call} {c : Script} {later : List ℕ}
