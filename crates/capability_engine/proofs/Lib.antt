@@ -13,6 +13,7 @@ pub mod RegionApplies
 pub mod RegionSteps
 pub mod RegionAnswers
 pub mod RegionTracks
+pub mod RegionListing
 pub mod StreamLists
 pub mod StreamMerged
 pub mod StreamFlows

@@ -2,14 +2,15 @@
 use Prim.Native.Nat.{ℕ, zero, suc, _+_, _≤_, _<_}
 use mathlib.Core.Path.{_≡_, refl, sym, ap, _∙_}
 use mathlib.Core.Logic.{_≢_}
-use mathlib.Core.List.{List, [], _∷_, _++_}
+use mathlib.Core.List.{List, [], _∷_, _++_, map}
 use native.Mathlib.Omega.{arith}
 use native.Mathlib.Nat.{not-suc-le-zero, le-of-suc-le-suc, zero-add}
-use lib.ListN.{getD, length, set, length-set}
+use lib.ListN.{getD, length, set, length-set, length-map}
 use lib.Seq.{getD-set-same, getD-set-other}
 use lib.Dec.{eqb}
 use borrow.Author.Tests.{lt-ltb, le-ltb, eq-eqb, ne-eqb}
-use Rattle.capability_engine.specs.PoolChain.{Seg, cnt, last, walk, slots, Listed}
+use Rattle.capability_engine.specs.PoolChain.{Seg, cnt, last, walk, slots, Listed, storedAt}
+use Rattle.capability_engine.specs.PoolWords.{regionAt}
 use Rattle.definitions.specs.Tests.{bit}
 
 -- ---- the walk finds the slots
@@ -60,6 +61,17 @@ slots-less nx h g l = rw (slots-step nx h g l) (omega arith)
 
 pub slots-none : (nx : List ℕ) (h : ℕ) → Listed nx h (slots nx h) → 1024 ≤ h → slots nx h ≡ []
 slots-none nx h g l = closed (slots nx h) g l
+
+-- the regions of a list, by its head
+module _ {nx : List ℕ} (ws : List ℕ) {h : ℕ} (g : Listed nx h (slots nx h)) where
+  pub stored-step : h < 1024 → storedAt nx ws h ≡ regionAt ws h ∷ storedAt nx ws (getD nx h 0)
+  stored-step l = ap (map (regionAt ws)) (slots-step nx h g l)
+
+  pub stored-none : 1024 ≤ h → storedAt nx ws h ≡ []
+  stored-none l = ap (map (regionAt ws)) (slots-none nx h g l)
+
+  pub stored-few : length (storedAt nx ws h) ≤ 1024
+  stored-few = rw (length-map (slots nx h) (regionAt ws)) (g .few)
 
 -- ---- how often a slot stands in a list
 

@@ -9,10 +9,10 @@ use lib.ListN.{length, take, drop, length-append, length-drop, length-map, drop-
 use lib.Seq.{sets, sets-eq, take-at, drop-drop, drop-append-add, take-all, length-take-le}
 use Rattle.definitions.specs.Tests.{each}
 use Rattle.definitions.specs.Pages.{page, filled, mappingGroup, permissionGroup, regionGroup, segmentGroup}
+use Rattle.definitions.specs.declared.region.MemoryPermission.{MemoryPermission}
 use Rattle.definitions.specs.declared.region.Region.{Region}
 use Rattle.definitions.specs.declared.remapper.Mapping.{Mapping}
 use Rattle.definitions.specs.declared.remapper.Segment.{Segment}
-use Rattle.definitions.specs.Regions.{permissionOf}
 use Rattle.definitions.proofs.PageLaws.{Wide, wide-map}
 use Rattle.capability_engine.specs.StreamPage.{Filled, written}
 use Rattle.capability_engine.proofs.StreamLists.{each-append}
@@ -148,9 +148,9 @@ pub five : (m : Mapping) → length (mappingGroup m) ≡ 5
 unfolding mappingGroup
 five m = refl
 
-pub three : (r : Region) → length (permissionGroup (permissionOf r)) ≡ 3
+pub three : (p : MemoryPermission) → length (permissionGroup p) ≡ 3
 unfolding permissionGroup
-three r = refl
+three p = refl
 
 pub eight : (r : Region) → length (regionGroup r) ≡ 8
 eight r = refl

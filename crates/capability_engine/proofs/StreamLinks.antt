@@ -4,17 +4,17 @@ use mathlib.Core.Path.{_≡_, refl, ap}
 use mathlib.Core.List.{List, [], _∷_, map}
 use native.Mathlib.Omega.{arith}
 use native.Mathlib.Numerals.{add-one}
-use lib.ListN.{getD, drop, length, length-map}
+use lib.ListN.{getD, drop, length}
 use Rattle.definitions.proofs.Lists.{Ordered}
 use Rattle.definitions.proofs.RegionLaws.{ordered-from}
 use Rattle.definitions.proofs.SegmentLaws.{Good, AllGood}
 use Rattle.definitions.specs.declared.region.Region.{Region}
 use Rattle.capability_engine.specs.PoolWords.{regionAt}
-use Rattle.capability_engine.specs.PoolChain.{slots, Listed, storedAt}
+use Rattle.capability_engine.specs.PoolChain.{Listed, storedAt}
 use Rattle.capability_engine.specs.StreamFlow.{Past}
 use Rattle.capability_engine.specs.SegmentWords.{segmentAt, segmentsFrom}
 use Rattle.capability_engine.specs.StreamCursor.{Sound}
-use Rattle.capability_engine.proofs.PoolLinks.{slots-are, slots-step, listed-step, slots-none}
+use Rattle.capability_engine.proofs.PoolLinks.{slots-are, listed-step, stored-step, stored-none, stored-few}
 
 pub past-of : {x y : ℕ} (rs : List Region) → x ≤ y → Ordered y rs → Past x rs
 past-of [] l g = tt
@@ -22,13 +22,13 @@ past-of (r ∷ rs) l g = omega arith
 
 module _ {nx ws : List ℕ} where
   pub regions-step : {h : ℕ} → Sound nx ws h → h < 1024 → storedAt nx ws h ≡ regionAt ws h ∷ storedAt nx ws (getD nx h 0)
-  regions-step {h} g l = ap (map (regionAt ws)) (slots-step nx h (g .listed) l)
+  regions-step g l = stored-step ws (g .listed) l
 
   pub regions-none : {h : ℕ} → Sound nx ws h → 1024 ≤ h → storedAt nx ws h ≡ []
-  regions-none {h} g l = ap (map (regionAt ws)) (slots-none nx h (g .listed) l)
+  regions-none g l = stored-none ws (g .listed) l
 
   pub regions-few : {h : ℕ} → Sound nx ws h → length (storedAt nx ws h) ≤ 1024
-  regions-few {h} g = rw (length-map (slots nx h) (regionAt ws)) (g .listed .few)
+  regions-few g = stored-few ws (g .listed)
 
   pub ordered-step : {h : ℕ} → Sound nx ws h → h < 1024 → Ordered 0 (regionAt ws h ∷ storedAt nx ws (getD nx h 0))
   ordered-step {h} g l = rw (regions-step g l) at (g .ordered)

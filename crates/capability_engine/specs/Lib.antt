@@ -4,6 +4,7 @@ pub mod PoolChain
 pub mod PoolOwn
 pub mod RegionPasses
 pub mod RegionAsks
+pub mod RegionListing
 pub mod StreamFlow
 pub mod StreamCursor
 pub mod StreamPage

@@ -4,9 +4,7 @@ use mathlib.Core.Path.{_≡_}
 use mathlib.Core.List.{List, _++_}
 use lib.ListN.{length, take, drop}
 use Rattle.definitions.specs.Tests.{each}
-use Rattle.definitions.specs.Pages.{page, filled, permissionGroup}
-use Rattle.definitions.specs.Regions.{permissionOf}
-use Rattle.definitions.specs.declared.region.Region.{Region}
+use Rattle.definitions.specs.Pages.{page, filled}
 
 pub record Filled (w : ℕ) (gs : List (List ℕ)) (k : ℕ) (before after : List ℕ) (answer : ℕ) : Type 0 where
   pub many : answer ≡ length (page w gs k (length before))
@@ -15,7 +13,3 @@ pub record Filled (w : ℕ) (gs : List (List ℕ)) (k : ℕ) (before after : Lis
 -- the slice with its first i groups written
 abbrev pub written : ℕ → List (List ℕ) → ℕ → List ℕ → List ℕ
 written w gs i slice = each (λ g. g) (take i gs) ++ drop (w * i) slice
-
--- the group of a record's permission
-abbrev pub permissionWords : Region → List ℕ
-permissionWords r = permissionGroup (permissionOf r)

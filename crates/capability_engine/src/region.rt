@@ -21,13 +21,14 @@ ghost use Rattle.definitions.specs.Questions.{everyNamed, ranged};
 ghost use Rattle.definitions.specs.declared.answer.Answer.the-variants.{Accepted, Refused};
 ghost use Rattle.definitions.proofs.Tables.{addOn, removeOn};
 ghost use Rattle.capability_engine.specs.PoolWords.{regionAt, putRegion};
-ghost use Rattle.definitions.specs.Regions.{region, splits, within, meets, joins, joined, cut, refcountOf};
+ghost use Rattle.definitions.specs.Regions.{region, splits, within, meets, joins, joined, cut, refcountOf, permissionOf};
 ghost use Rattle.definitions.specs.Values.{nothing, raise, lower};
 ghost use Rattle.definitions.proofs.Lists.{fill, change, added, removed, peak};
 ghost use Rattle.capability_engine.specs.PoolChain.{Listed, Walkable, slots, records, storedAt};
 ghost use Rattle.capability_engine.specs.PoolOwn.{Heap, heap, mineOf, recordsOf, Ready, Room, Pass, CanInsert, Inserts, InsertsRegion, PutsGap, CanRemove, Removes};
 ghost use Rattle.capability_engine.specs.RegionPasses.{lowered, startOf, changedOne, Small, AllSmall, CanApplyRemove};
 ghost use Rattle.capability_engine.specs.RegionAsks.{everyOf, lowEnough, gapFrom, gapHere, addStep, freesOne, removeStep, Tracked, AddsRegion, RemovesRegion, foldFrom, addBegin, removeBegin, Askable, mostOf};
+ghost use Rattle.capability_engine.specs.RegionListing.{Starts, Steps};
 
 // The slot that was put in, and the arena without it.
 pub(crate) struct Inserted {
@@ -604,6 +605,17 @@ pub struct RegionTracker {
     pub head: usize,
 }
 
+// A cursor over the permissions: the slot of the record of the next one, 1,024 at the end.
+pub(crate) struct PermissionIterator {
+    pub(crate) next: usize,
+}
+
+// The permission that a cursor came to, with the cursor behind it.
+pub(crate) enum NextPermission {
+    At(MemoryPermission, PermissionIterator),
+    End,
+}
+
 // What an add or a remove leaves of the list and the arena, and its answer.
 pub(crate) struct Changed {
     pub tracker: RegionTracker,
@@ -966,6 +978,15 @@ fn most(n: u64, r: Region, start: HostAddr, end: HostAddr) -> u64
     n
 }
 
+fn permission(r: Region) -> MemoryPermission
+    ensures { λ p. ⌜ p ≡ permissionOf r ⌝ }
+{
+    let start = r.start;
+    let end = r.end;
+    let ops = r.get_ops();
+    MemoryPermission { start, end, ops }
+}
+
 impl RegionTracker {
     // An empty list.
     pub(crate) fn new() -> RegionTracker
@@ -993,6 +1014,13 @@ impl RegionTracker {
             cur = next[cur];
         }
         n
+    }
+
+    // A cursor before the first permission.
+    pub(crate) fn permissions(self) -> PermissionIterator
+        ensures { λ c. ⌜ Starts self c ⌝ }
+    {
+        PermissionIterator { next: self.head }
     }
 
     pub(crate) fn add_region(
@@ -1079,5 +1107,22 @@ impl RegionTracker {
                 answer,
             },
         }
+    }
+}
+
+impl PermissionIterator {
+    // The permission of the next record. No record is without a holder, so none is passed over.
+    pub(crate) fn next(self, next: &[usize], words: &[u64]) -> NextPermission
+        requires { ⌜ Walkable (now next) (now words) (self .next) ⌝ }
+        ensures { λ n. ⌜ Steps (now (next .entry)) (now (words .entry)) self n ⌝ }
+    {
+        let h = self.next;
+        if h >= 1024 {
+            return NextPermission::End;
+        }
+        let r = load(words, h);
+        let p = permission(r);
+        let after = next[h];
+        NextPermission::At(p, PermissionIterator { next: after })
     }
 }

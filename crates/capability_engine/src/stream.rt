@@ -11,10 +11,14 @@ ghost use Rattle.definitions.specs.Regions.{region, permissionOf};
 ghost use Rattle.definitions.specs.Stream.{sharedPart, identity, stream};
 ghost use Rattle.definitions.specs.Pages.{mappingGroup, permissionGroup, regionGroup, segmentGroup};
 ghost use Rattle.capability_engine.specs.PoolWords.{regionAt};
-ghost use Rattle.capability_engine.specs.PoolChain.{slots, Listed, storedAt};
+ghost use Rattle.capability_engine.specs.PoolChain.{slots, Listed, Walkable, storedAt};
+ghost use Rattle.capability_engine.specs.RegionListing.{permissionsFrom};
 ghost use Rattle.capability_engine.specs.SegmentWords.{segmentsFrom, segmentAt};
 ghost use Rattle.capability_engine.specs.StreamCursor.{Whole, Table, Ready, Says, Turned, Met, remaining, toGo, goesOn, begins, runs, lastTurn, firstTurn};
 ghost use Rattle.capability_engine.specs.StreamPage.{Filled};
+use crate::region::NextPermission;
+use crate::region::PermissionIterator;
+use crate::region::RegionTracker;
 use crate::region::load;
 use crate::region::save;
 use crate::remapper::put_segment;
@@ -412,15 +416,6 @@ fn follow(next: &[usize], head: usize, k: usize) -> usize
     h
 }
 
-fn permission(r: Region) -> MemoryPermission
-    ensures { λ p. ⌜ p ≡ permissionOf r ⌝ }
-{
-    let start = r.start;
-    let end = r.end;
-    let ops = r.get_ops();
-    MemoryPermission { start, end, ops }
-}
-
 // A permission is group i of the slice.
 fn put_permission(out: &mut [u64], i: usize, p: MemoryPermission)
     requires { ⌜ 3 * i + 3 ≤ length (now out) ⌝ }
@@ -432,24 +427,27 @@ fn put_permission(out: &mut [u64], i: usize, p: MemoryPermission)
     out[b + 2] = p.ops.0;
 }
 
-// The permissions of the records from a slot on, as many as there are and as fit.
-fn fill_permissions(next: &[usize], words: &[u64], from: usize, out: &mut [u64]) -> usize
-    requires { ⌜ length (now words) ≡ 8192 ⌝ }
-    requires { ⌜ Listed (now next) from (slots (now next) from) ⌝ }
-    ensures { λ r. ⌜ Filled 3 (map (λ q. permissionGroup (permissionOf q)) (storedAt (now (next .entry)) (now (words .entry)) from)) 0
+// The permissions from a cursor on, as many as there are and as fit.
+fn fill_permissions(
+    from: PermissionIterator,
+    next: &[usize],
+    words: &[u64],
+    out: &mut [u64],
+) -> usize
+    requires { ⌜ Walkable (now next) (now words) (from .next) ⌝ }
+    ensures { λ r. ⌜ Filled 3 (map permissionGroup (permissionsFrom (now (next .entry)) (now (words .entry)) from)) 0
         (now (out .entry)) (now (out .exit)) r ⌝ }
 {
     let room = out.len() / 3;
-    let mut h = from;
+    let mut c = from;
     let mut i: usize = 0;
     while i < room {
-        if h >= 1024 {
+        let n = c.next(next, words);
+        let NextPermission::At(p, d) = n else {
             return i;
-        }
-        let r = load(words, h);
-        let p = permission(r);
+        };
         put_permission(out, i, p);
-        h = next[h];
+        c = d;
         i += 1;
     }
     i
@@ -468,8 +466,10 @@ pub(crate) fn permissions(
     ensures { λ r. ⌜ Filled 3 (map (λ q. permissionGroup (permissionOf q)) (storedAt (now (next .entry)) (now (words .entry)) head)) k
         (now (out .entry)) (now (out .exit)) r ⌝ }
 {
-    let h = follow(next, head, k);
-    fill_permissions(next, words, h, out)
+    let tracker = RegionTracker { head };
+    let first = tracker.permissions();
+    let h = follow(next, first.next, k);
+    fill_permissions(PermissionIterator { next: h }, next, words, out)
 }
 
 // The regions from a slot on, as many as there are and as fit.

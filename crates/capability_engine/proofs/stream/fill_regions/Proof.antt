@@ -1,6 +1,8 @@
 use borrow.Author.Needs.{needs}
 use Rattle.capability_engine.proofs.StreamFills.{eight}
-use Rattle.capability_engine.proofs.StreamWalks.{Walk, walk-start, walk-kept, walk-fits, walk-few, walk-short, walk-full, walk-more}
+use Rattle.capability_engine.proofs.StreamWalks.{Walk, walk-start, walk-kept, walk-fits, walk-short, walk-full, walk-more}
+use Rattle.capability_engine.proofs.PoolLinks.{listed-step, stored-step, stored-none, stored-few}
+use Rattle.capability_engine.specs.PoolChain.{slots, Listed, storedAt}
 use Rattle.capability_engine.specs.PoolWords.{putRegion}
 use Rattle.definitions.specs.Pages.{regionGroup}
 use mathlib.Core.Path.{ap, _∙_}
@@ -10,47 +12,48 @@ use Rattle.capability_engine.proofs.stream.fill_regions.Statement.{stat
 use Rattle.capability_engine.proofs.stream.fill_regions.Tie as tie
 
 abbrev Inv-loop : tie.InvT-loop
-Inv-loop next words from out₀ room h₀ i₀ out h i = Walk 8 regionGroup next words from out₀ out h i
+Inv-loop next words from out₀ room h₀ i₀ out h i =
+    Listed next h (slots next h) × Walk 8 regionGroup (storedAt next words from) (storedAt next words h) out₀ out i
 
 abbrev μ-loop : tie.MeasureT-loop
 μ-loop next words from out₀ room h₀ i₀ out h i = room - i
 
 loop-holds : tie.Need-loop-holds Inv-loop μ-loop
-loop-holds c = walk-start 8 regionGroup eight _ _ _ _ (c .before .before .before .pre .1)
+loop-holds c = (c .before .before .before .pre .1, walk-start 8 regionGroup eight)
 
 same-length : tie.Need-same-length Inv-loop μ-loop
-same-length c = walk-kept 8 regionGroup eight _ _ _ (c .before .before .before .before .before .before .args .out .now) (c .before .before .loop .out) (c .before .before .loop .h) (c .before .before .loop .i) (c .before .before .loop .inv)
+same-length c = walk-kept 8 regionGroup eight (c .before .before .loop .inv .1)
 
 returns : tie.Need-returns Inv-loop μ-loop
-returns c = walk-short 8 regionGroup eight _ _ _ (c .before .before .before .before .before .before .args .out .now) (c .before .before .loop .out) (c .before .before .loop .h) (c .before .before .loop .i) (c .before .before .loop .inv) (c .if1 .taken)
+returns c = walk-short 8 regionGroup eight (c .before .before .loop .inv .1) (stored-none _ (c .before .before .loop .inv .0) (c .if1 .taken))
 
 load-requires : tie.Need-load-requires Inv-loop μ-loop
 load-requires c κs = (c .if1 .left, c .before .before .before .before .before .before .pre .0)
 
 save-requires : tie.Need-save-requires Inv-loop μ-loop
-save-requires c κs = walk-fits 8 regionGroup eight _ _ _ (c .before .before .before .before .before .before .before .before .args .out .now) (c .before .before .before .before .loop .out) (c .before .before .before .before .loop .h) (c .before .before .before .before .loop .i) (c .before .before .before .before .loop .inv) (c .before .before .before .loop-test .taken)
+save-requires c κs = walk-fits 8 regionGroup eight (c .before .before .before .before .loop .inv .1) (c .before .before .before .loop-test .taken)
 
 mul-h : tie.Need-mul-h Inv-loop μ-loop
 mul-h c = omega (arith, c .before .before .before .before .before .if1 .left)
 
 shared-slice-read-h : tie.Need-shared-slice-read-h Inv-loop μ-loop
-shared-slice-read-h c = omega (arith, c .before .before .before .before .before .before .if1 .left, c .before .before .before .before .before .before .before .before .loop .inv .listed .size)
+shared-slice-read-h c = omega (arith, c .before .before .before .before .before .before .if1 .left, c .before .before .before .before .before .before .before .before .loop .inv .0 .size)
 
 add-i : tie.Need-add-i Inv-loop μ-loop
-add-i c = omega (arith, walk-few 8 regionGroup eight _ _ _ (c .before .before .before .before .before .before .before .before .before .before .before .before .args .out .now) (c .before .before .before .before .before .before .before .before .loop .out) (c .before .before .before .before .before .before .before .before .loop .h) (c .before .before .before .before .before .before .before .before .loop .i) (c .before .before .before .before .before .before .before .before .loop .inv) (c .before .before .before .before .before .before .before .before .before .before .before .before .pre .1))
+add-i c = omega (arith, c .before .before .before .before .before .before .before .before .loop .inv .1 .some, stored-few (c .before .before .before .before .before .before .before .before .before .before .before .before .args .words .now) (c .before .before .before .before .before .before .before .before .before .before .before .before .pre .1))
 
 loop-less : tie.Need-loop-less Inv-loop μ-loop
 loop-less c = search needs
 
 loop-again : tie.Need-loop-again Inv-loop μ-loop
 unfolding putRegion
-loop-again c = walk-more 8 regionGroup eight _ _ _ (c .before .before .before .before .before .before .before .before .before .before .before .before .args .out .now) (c .before .before .before .before .before .before .before .before .loop .out) (c .before .before .before .before .before .before .before .before .loop .h) (c .before .before .before .before .before .before .before .before .loop .i) (c .before .before .before .before .before .before .before .before .loop .inv) _ (c .before .before .before .before .before .before .if1 .left) (c .before .before .before .before .before .before .before .loop-test .taken) (c .before .before .before .save .ensures ∙ ap (putRegion (c .before .before .before .before .before .before .before .before .loop .out) (c .before .before .before .before .before .before .before .before .loop .i)) (c .before .before .before .before .before .load .ensures))
+loop-again c = (listed-step _ _ (c .before .before .before .before .before .before .before .before .loop .inv .0) (c .before .before .before .before .before .before .if1 .left), walk-more 8 regionGroup eight (c .before .before .before .before .before .before .before .before .loop .inv .1) (stored-step _ (c .before .before .before .before .before .before .before .before .loop .inv .0) (c .before .before .before .before .before .before .if1 .left)) (c .before .before .before .before .before .before .before .loop-test .taken) (c .before .before .before .save .ensures ∙ ap (putRegion (c .before .before .before .before .before .before .before .before .loop .out) (c .before .before .before .before .before .before .before .before .loop .i)) (c .before .before .before .before .before .load .ensures)))
 
 same-length-2 : tie.Need-same-length-2 Inv-loop μ-loop
-same-length-2 c = walk-kept 8 regionGroup eight _ _ _ (c .before .before .before .before .before .args .out .now) (c .before .loop .out) (c .before .loop .h) (c .before .loop .i) (c .before .loop .inv)
+same-length-2 c = walk-kept 8 regionGroup eight (c .before .loop .inv .1)
 
 returns-2 : tie.Need-returns-2 Inv-loop μ-loop
-returns-2 c = walk-full 8 regionGroup eight _ _ _ (c .before .before .before .before .before .args .out .now) (c .before .loop .out) (c .before .loop .h) (c .before .loop .i) (c .before .loop .inv) (omega arith)
+returns-2 c = walk-full 8 regionGroup eight (c .before .loop .inv .1) (omega arith)
 
 pub fill-regions-spec : {M : Type 1} → statement M
 fill-regions-spec =

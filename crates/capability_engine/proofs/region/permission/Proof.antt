@@ -1,7 +1,7 @@
 use Rattle.definitions.specs.Regions.{permissionOf}
 use borrow.Author.Needs.{needs}
-use Rattle.capability_engine.proofs.stream.permission.Statement.{statement}
-use Rattle.capability_engine.proofs.stream.permission.Tie as tie
+use Rattle.capability_engine.proofs.region.permission.Statement.{statement}
+use Rattle.capability_engine.proofs.region.permission.Tie as tie
 
 get-ops-requires : tie.Need-get-ops-requires
 get-ops-requires c κs = search needs
