@@ -1,0 +1,9 @@
+//! The original as judge of the port: scripts go through both, and every answer, list and stream is compared.
+pub mod compare;
+pub mod judge;
+pub mod line;
+pub mod port;
+pub mod random;
+pub mod report;
+pub mod shapes;
+pub mod shrink;

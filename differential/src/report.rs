@@ -1,0 +1,117 @@
+//! What a run has seen, as a table, and the smallest script for each thing that the two sides do differently.
+use crate::compare::{check, lists, Class, Depth, Script, Tally};
+use crate::judge::{Said, Tables};
+use crate::line::{self, Call};
+use crate::port::{self, List};
+use crate::shrink::smallest;
+use std::collections::BTreeMap;
+use std::fmt::Write;
+
+/// One row for each answer and each thing that the original did there.
+pub fn table(tally: &Tally) -> String {
+    let mut rows: BTreeMap<(u64, char, &str), (u64, u64)> = BTreeMap::new();
+    for (class, (many, _)) in &tally.classes {
+        let row = rows.entry((class.answer, class.letter, &class.original)).or_default();
+        row.0 += many;
+        row.1 += if class.altered { *many } else { 0 };
+    }
+    let mut out = String::from(
+        "| answer | line | times | the original there | of these, lists altered by it |\n|---|---|---|---|---|\n",
+    );
+    for ((answer, letter, original), (many, altered)) in rows {
+        let _ = writeln!(out, "| {answer} | {letter} | {many} | {} | {altered} |", original.replace('|', "\\|"));
+    }
+    out
+}
+
+/// What a script's last line shows.
+fn last_class(lines: &[Vec<u8>]) -> Option<Class> {
+    let mut tally = Tally::default();
+    let script = Script { lines: lines.to_vec(), ..Script::default() };
+    check(&script, Depth::Output, &mut tally).ok()?;
+    tally.last
+}
+
+/// The calls of a script that the port accepts, and its last line.
+fn accepted(lines: &[Vec<u8>]) -> (Vec<Call>, Option<Call>) {
+    let mut calls = Vec::new();
+    let mut tables = Tables::default();
+    let before = &lines[..lines.len() - 1];
+    for call in before.iter().filter_map(|line| Call::parse(line)) {
+        if let Said::Value(_) = tables.say(&call) {
+            calls.push(call);
+        }
+    }
+    (calls, Call::parse(&lines[lines.len() - 1]))
+}
+
+/// Numbers in groups, as the paper writes them.
+fn groups(all: &[u64], width: usize) -> String {
+    let group = |g: &[u64]| format!("({})", g.iter().map(u64::to_string).collect::<Vec<_>>().join(", "));
+    let many = all.len() / width;
+    let mut shown: Vec<String> = all.chunks(width).take(3).map(group).collect();
+    if many > 3 {
+        shown.push(format!("and {} more", many - 3));
+    }
+    if shown.is_empty() {
+        "none".to_string()
+    } else {
+        shown.join(" ")
+    }
+}
+
+/// The lines of a script, a long one cut in the middle.
+fn shown(lines: &[Vec<u8>]) -> String {
+    // the columns of a line that is of the form are left out
+    let plain = |line: &Vec<u8>| {
+        let text = line.escape_ascii().to_string();
+        match Call::parse(line) {
+            Some(_) => text.split_whitespace().collect::<Vec<_>>().join(" "),
+            None => text,
+        }
+    };
+    let mut all: Vec<String> = lines.iter().map(plain).collect();
+    if all.len() > 8 {
+        let middle = format!(".. {} lines ..", all.len() - 5);
+        all.splice(2..all.len() - 3, [middle]);
+    }
+    let quoted = |line: &String| if line.is_empty() { "an empty line".to_string() } else { format!("`{line}`") };
+    all.iter().map(quoted).collect::<Vec<_>>().join("<br>")
+}
+
+/// One row: the smallest script that ends in a class, and what both sides do at its last line.
+fn row(number: usize, class: &Class, lines: &[Vec<u8>]) -> String {
+    let (calls, last) = accepted(lines);
+    let text = line::text(lines);
+    let mut original = class.original.clone();
+    let mut port = format!("answers {}", class.answer);
+    if let Some(call) = last.filter(|call| call.compartment < 8) {
+        let k = call.compartment as usize;
+        let mut tables = Tables::after(&calls);
+        tables.say(&call);
+        if class.altered {
+            let left = lists(&tables, k).map(|all| (groups(&all[2], 8), groups(&all[3], 4)));
+            let (records, segments) =
+                left.unwrap_or_else(|_| (groups(&tables.regions(k), 8), groups(&tables.segments(k), 4)));
+            let _ = write!(original, "; then records {records}, segments {segments}");
+            let ours = |list: List| groups(&port::whole(list, &text, k as u64), list.width());
+            let _ = write!(port, "; then records {}, segments {}", ours(List::Regions), ours(List::Segments));
+        } else {
+            port.push_str("; no list is altered by either");
+        }
+    }
+    format!("| {number} | {} | {} | {port} |\n", shown(lines), original.replace('|', "\\|"))
+}
+
+/// The smallest script for each refusal that was seen, with what both sides do.
+pub fn differences(tally: &Tally) -> String {
+    let mut out = String::from("| # | script | the original at its last line | the port |\n|---|---|---|---|\n");
+    let classes = tally.classes.iter().filter(|(class, _)| class.answer != 0);
+    for (number, (class, (_, example))) in classes.enumerate() {
+        let holds = |lines: &[Vec<u8>]| last_class(lines).as_ref() == Some(class);
+        let lines = if example.len() > 3000 { example.clone() } else { smallest(example, &holds) };
+        eprintln!("differential: the smallest script for {} of {}", number + 1, tally.classes.len());
+        out.push_str(&row(number + 1, class, &lines));
+    }
+    out
+}

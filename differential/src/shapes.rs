@@ -1,0 +1,398 @@
+//! The shapes of scripts: each draws its numbers so that calls meet each other, and every answer is reached.
+use crate::compare::Script;
+use crate::line::{Call, Kind};
+use crate::random::Random;
+
+/// Lines that many scripts begin with.
+#[derive(Clone, Copy, Debug, PartialEq, Eq, Hash)]
+pub enum Preamble {
+    None,
+    /// Single addresses 0, 2, .. of compartment 0, so many.
+    Singles(u64),
+    /// Ranges inside each other: two records for each line behind the first.
+    Nested(u64),
+    /// A record [0, 10), and single addresses 100, 102, ..
+    Apart(u64),
+    /// So many segments, with a record over all of them.
+    Segments(u64),
+    /// So many segments of one host address.
+    Stacked(u64),
+}
+
+pub const PREAMBLES: [Preamble; 10] = [
+    Preamble::Singles(1024),
+    Preamble::Singles(1021),
+    Preamble::Nested(512),
+    Preamble::Nested(510),
+    Preamble::Apart(1022),
+    Preamble::Apart(1023),
+    Preamble::Segments(64),
+    Preamble::Segments(62),
+    Preamble::Stacked(63),
+    Preamble::Stacked(64),
+];
+
+impl Preamble {
+    pub fn calls(self) -> Vec<Call> {
+        let add = |start, end| Call::new(Kind::Add, 0, &[start, end, 1]);
+        match self {
+            Preamble::None => Vec::new(),
+            Preamble::Singles(n) => (0..n).map(|i| add(2 * i, 2 * i + 1)).collect(),
+            Preamble::Nested(n) => (0..n).map(|i| add(i, 3000 - i)).collect(),
+            Preamble::Apart(n) => {
+                std::iter::once(add(0, 10)).chain((0..n).map(|i| add(100 + 2 * i, 101 + 2 * i))).collect()
+            }
+            Preamble::Segments(n) => {
+                let map = |i| Call::new(Kind::Map, 0, &[10 * i, 1000 + 10 * i, 8, 1]);
+                std::iter::once(add(3, 500)).chain((0..n).map(map)).collect()
+            }
+            Preamble::Stacked(n) => {
+                let map = |i| Call::new(Kind::Map, 0, &[100, 1000 + 20 * i, 1 + i % 15, 1]);
+                std::iter::once(add(95, 120)).chain((0..n).map(map)).collect()
+            }
+        }
+    }
+}
+
+/// Where a shape draws its numbers from.
+struct Shape {
+    /// Of 12 lines, how many are A, D, C, M, U, G and P.
+    letters: [u64; 7],
+    host: fn(&mut Random) -> u64,
+    guest: fn(&mut Random) -> u64,
+    size: fn(&mut Random) -> u64,
+    repeat: fn(&mut Random) -> u64,
+    rights: fn(&mut Random) -> u64,
+    compartment: fn(&mut Random) -> u64,
+    lines: (u64, u64),
+    preambles: &'static [Preamble],
+}
+
+fn few(r: &mut Random) -> u64 {
+    r.below(14)
+}
+
+fn some(r: &mut Random) -> u64 {
+    r.below(48)
+}
+
+fn top(r: &mut Random) -> u64 {
+    if r.once_in(4) {
+        u64::MAX
+    } else {
+        u64::MAX - r.below(14)
+    }
+}
+
+fn ends(r: &mut Random) -> u64 {
+    match r.below(5) {
+        0 => r.next(),
+        1 => r.below(4),
+        2 => (1 << 63) - 3 + r.below(6),
+        3 => 1 << r.below(64),
+        _ => u64::MAX - r.below(6),
+    }
+}
+
+fn about_pool(r: &mut Random) -> u64 {
+    if r.once_in(3) {
+        r.below(16)
+    } else {
+        r.below(3010)
+    }
+}
+
+fn about_segments(r: &mut Random) -> u64 {
+    if r.once_in(3) {
+        90 + r.below(40)
+    } else {
+        r.below(650)
+    }
+}
+
+fn about_guests(r: &mut Random) -> u64 {
+    990 + r.below(1300)
+}
+
+fn stacked(r: &mut Random) -> u64 {
+    r.one_of(&[10, 10, 10, 12, 20])
+}
+
+fn spread(r: &mut Random) -> u64 {
+    100 * r.between(1, 9) + r.below(3)
+}
+
+fn short(r: &mut Random) -> u64 {
+    r.below(8)
+}
+
+fn any_size(r: &mut Random) -> u64 {
+    if r.once_in(2) {
+        r.below(30)
+    } else {
+        ends(r)
+    }
+}
+
+fn once(r: &mut Random) -> u64 {
+    if r.once_in(12) {
+        r.below(3)
+    } else {
+        1
+    }
+}
+
+fn often(r: &mut Random) -> u64 {
+    r.below(5)
+}
+
+fn any_repeat(r: &mut Random) -> u64 {
+    if r.once_in(2) {
+        1
+    } else {
+        ends(r)
+    }
+}
+
+fn plain(r: &mut Random) -> u64 {
+    r.one_of(&[1, 1, 3, 3, 7, 11])
+}
+
+fn every(r: &mut Random) -> u64 {
+    if r.once_in(25) {
+        r.one_of(&[32, 33, 128, u64::MAX])
+    } else {
+        r.below(32)
+    }
+}
+
+fn first(_: &mut Random) -> u64 {
+    0
+}
+
+fn three(r: &mut Random) -> u64 {
+    if r.once_in(30) {
+        r.one_of(&[8, 9, 10, 99])
+    } else {
+        r.below(3)
+    }
+}
+
+fn eight(r: &mut Random) -> u64 {
+    r.below(9)
+}
+
+const NO: &[Preamble] = &[Preamble::None];
+const POOL: &[Preamble] = &[PREAMBLES[0], PREAMBLES[1], PREAMBLES[2], PREAMBLES[3], PREAMBLES[4], PREAMBLES[5]];
+const SLOTS: &[Preamble] = &[PREAMBLES[6], PREAMBLES[7], PREAMBLES[8], PREAMBLES[9]];
+
+#[rustfmt::skip]
+const SHAPES: [(&str, Shape); 11] = [
+    ("crowded records", Shape { letters: [5, 4, 1, 0, 0, 0, 1], host: few, guest: few, size: short, repeat: once, rights: every, compartment: first, lines: (3, 24), preambles: NO }),
+    ("crowded records and segments", Shape { letters: [3, 2, 1, 3, 1, 1, 1], host: few, guest: few, size: short, repeat: once, rights: plain, compartment: three, lines: (3, 24), preambles: NO }),
+    ("removes over gaps", Shape { letters: [4, 7, 0, 0, 0, 0, 1], host: some, guest: few, size: short, repeat: once, rights: plain, compartment: first, lines: (4, 20), preambles: NO }),
+    ("segments", Shape { letters: [1, 0, 0, 5, 2, 3, 1], host: some, guest: spread, size: short, repeat: once, rights: plain, compartment: first, lines: (4, 20), preambles: NO }),
+    ("equal hpa", Shape { letters: [1, 0, 0, 6, 2, 2, 1], host: stacked, guest: spread, size: short, repeat: once, rights: every, compartment: first, lines: (4, 20), preambles: NO }),
+    ("repeats", Shape { letters: [1, 0, 0, 5, 1, 4, 1], host: some, guest: some, size: short, repeat: often, rights: plain, compartment: first, lines: (4, 16), preambles: NO }),
+    ("near 2^64", Shape { letters: [3, 2, 1, 3, 1, 1, 1], host: top, guest: top, size: short, repeat: once, rights: plain, compartment: three, lines: (3, 20), preambles: NO }),
+    ("any numbers", Shape { letters: [3, 2, 1, 3, 1, 1, 1], host: ends, guest: ends, size: any_size, repeat: any_repeat, rights: every, compartment: eight, lines: (3, 20), preambles: NO }),
+    ("long", Shape { letters: [3, 2, 1, 3, 1, 1, 1], host: some, guest: spread, size: short, repeat: once, rights: plain, compartment: three, lines: (80, 160), preambles: NO }),
+    ("a nearly full pool", Shape { letters: [4, 5, 1, 0, 0, 0, 0], host: about_pool, guest: few, size: short, repeat: once, rights: plain, compartment: three, lines: (2, 8), preambles: POOL }),
+    ("all segments in use", Shape { letters: [1, 1, 0, 2, 4, 3, 1], host: about_segments, guest: about_guests, size: short, repeat: once, rights: plain, compartment: first, lines: (2, 10), preambles: SLOTS }),
+];
+
+impl Shape {
+    fn kind(&self, r: &mut Random) -> Kind {
+        let mut at = r.below(self.letters.iter().sum());
+        for (kind, many) in crate::line::KINDS.into_iter().zip(self.letters) {
+            if at < many {
+                return kind;
+            }
+            at -= many;
+        }
+        Kind::Print
+    }
+
+    /// Two numbers in order, mostly.
+    fn range(&self, r: &mut Random) -> (u64, u64) {
+        let a = (self.host)(r);
+        let b = if r.once_in(2) { (self.host)(r) } else { a.saturating_add(self.size_of(r)) };
+        if a <= b || r.once_in(20) {
+            (a, b)
+        } else {
+            (b, a)
+        }
+    }
+
+    fn size_of(&self, r: &mut Random) -> u64 {
+        (self.size)(r)
+    }
+
+    fn call(&self, r: &mut Random) -> Call {
+        let kind = self.kind(r);
+        let compartment = (self.compartment)(r);
+        let numbers = match kind {
+            Kind::Add | Kind::Remove => {
+                let (start, end) = self.range(r);
+                vec![start, end, (self.rights)(r)]
+            }
+            Kind::Count => vec![(self.host)(r), (self.host)(r)],
+            Kind::Map => vec![(self.host)(r), (self.guest)(r), self.size_of(r), (self.repeat)(r)],
+            Kind::Unmap => vec![(self.host)(r), self.size_of(r)],
+            Kind::UnmapGpa => vec![(self.guest)(r), self.size_of(r)],
+            Kind::Print => vec![],
+        };
+        Call::new(kind, compartment, &numbers)
+    }
+}
+
+/// A line with a fault, or with a change that is none.
+fn damaged(line: &[u8], r: &mut Random) -> Vec<u8> {
+    let mut line = line.to_vec();
+    let at = r.below(line.len() as u64) as usize;
+    match r.below(10) {
+        0 => line.truncate(at),
+        1 => line.push(b' '),
+        2 => line.insert(at, b' '),
+        3 => line[at] = b'0',
+        4 => line[at] = r.next() as u8,
+        5 => line[0] = r.one_of(b"ADCMUGPadcmugpXOR \r\t"),
+        6 => line.push(b'\r'),
+        7 => line[at] = r.one_of(b"-+,.x/:"),
+        8 => {
+            // a number of 20 digits, which may pass 2^64 - 1
+            if line.len() >= 24 {
+                line[4..24].copy_from_slice(r.one_of(&[
+                    b"18446744073709551615",
+                    b"18446744073709551616",
+                    b"99999999999999999999",
+                ]));
+            }
+        }
+        _ => line.clear(),
+    }
+    line.retain(|b| *b != b'\n');
+    line
+}
+
+/// Script number i of a run. Which shape it takes, and all its numbers, follow from the seed and from i.
+pub fn script(seed: u64, i: u64) -> (&'static str, Preamble, Script) {
+    let mut r = Random(seed ^ i.wrapping_mul(0xD6E8_FEB8_6659_FD93));
+    r.next();
+    // long preambles cost as much as hundreds of other scripts
+    let at = if i % 400 == 199 {
+        9
+    } else if i % 50 == 49 {
+        10
+    } else if i % 40 == 39 {
+        8
+    } else {
+        i % 8
+    };
+    let (name, shape) = &SHAPES[at as usize];
+    let preamble = r.one_of(shape.preambles);
+    let mut lines: Vec<Vec<u8>> = preamble.calls().iter().map(Call::line).collect();
+    let known = lines.len();
+    let bad = r.once_in(6);
+    for _ in 0..r.between(shape.lines.0, shape.lines.1) {
+        let line = shape.call(&mut r).line();
+        lines.push(if bad && r.once_in(3) { damaged(&line, &mut r) } else { line });
+    }
+    let open = r.once_in(8);
+    (name, preamble, Script { lines, known, open })
+}
+
+fn script_of(calls: &[Call]) -> Script {
+    Script { lines: calls.iter().map(Call::line).collect(), ..Script::default() }
+}
+
+/// Counts at 65,535: so many adds of one address, and one more of it; then calls about it.
+fn full_counts() -> Script {
+    let add = |start, end, rights| Call::new(Kind::Add, 0, &[start, end, rights]);
+    let mut calls = vec![add(5, 6, 3); 65535];
+    let known = calls.len();
+    calls.extend([add(5, 6, 3), add(5, 6, 0), add(4, 6, 1), add(6, 7, 1)]);
+    calls.push(Call::new(Kind::Remove, 0, &[5, 6, 1]));
+    calls.extend([add(5, 6, 1), add(5, 6, 1), Call::new(Kind::Print, 0, &[])]);
+    Script { known, ..script_of(&calls) }
+}
+
+/// A pool that is full but for one record, and calls that need one or two.
+pub fn full_pool() -> Script {
+    let mut calls = Preamble::Nested(512).calls();
+    let known = calls.len();
+    let behind =
+        [(Kind::Add, [600, 700]), (Kind::Add, [5000, 5001]), (Kind::Add, [6000, 6001]), (Kind::Remove, [600, 700])];
+    calls.extend(behind.map(|(kind, [start, end])| Call::new(kind, 1, &[start, end, 1])));
+    calls.extend(behind.map(|(kind, [start, end])| Call::new(kind, 0, &[start, end, 1])));
+    Script { known, ..script_of(&calls) }
+}
+
+/// Every other number, by the paper's layouts or smaller ones.
+fn refusals() -> Script {
+    let call = |kind, compartment, numbers: &[u64]| Call::new(kind, compartment, numbers);
+    let mut calls = vec![
+        call(Kind::Add, 8, &[0, 1, 1]),
+        call(Kind::Add, 0, &[0, 1, 32]),
+        call(Kind::Add, 0, &[1, 0, 1]),
+        call(Kind::Remove, 0, &[0, 1, 1]),
+        call(Kind::Add, 0, &[0, 10, 1]),
+        call(Kind::Add, 0, &[20, 30, 1]),
+        call(Kind::Remove, 0, &[12, 25, 1]),
+        call(Kind::Remove, 0, &[0, 10, 3]),
+        call(Kind::Map, 0, &[0, 0, 0, 1]),
+        call(Kind::Map, 0, &[u64::MAX, 0, 1, 1]),
+        call(Kind::Map, 1, &[100, 1000, 10, 1]),
+        call(Kind::Map, 1, &[200, 1005, 1, 1]),
+        call(Kind::Unmap, 1, &[95, 10]),
+        call(Kind::Map, 1, &[103, 2000, 2, 1]),
+        call(Kind::UnmapGpa, 1, &[1000, 5]),
+        call(Kind::Map, 2, &[100, 1000, 10, 2]),
+        call(Kind::UnmapGpa, 2, &[1000, 4]),
+        call(Kind::Map, 3, &[0, 5, 1, 1]),
+        call(Kind::Map, 3, &[0, 4, 3, 1]),
+        call(Kind::UnmapGpa, 3, &[5, 1]),
+    ];
+    calls.extend((0..65).map(|i| call(Kind::Map, 4, &[0, 1 + i, 1, 1])));
+    let mut script = script_of(&calls);
+    script.lines.push(b"X".to_vec());
+    script
+}
+
+/// Scripts that reach every answer, whatever the seed.
+pub fn fixed() -> [Script; 3] {
+    [refusals(), full_pool(), full_counts()]
+}
+
+/// The calls of the small universe: addresses 0 to 3.
+pub fn small_calls(regions: bool) -> Vec<Call> {
+    let mut calls = Vec::new();
+    if regions {
+        for start in 0..3 {
+            for end in start + 1..4 {
+                for rights in [1, 3] {
+                    calls.push(Call::new(Kind::Add, 0, &[start, end, rights]));
+                    calls.push(Call::new(Kind::Remove, 0, &[start, end, rights]));
+                }
+            }
+        }
+        return calls;
+    }
+    for at in 0..4 {
+        for size in 0..3 {
+            if at + size > 4 {
+                continue;
+            }
+            calls.push(Call::new(Kind::Unmap, 0, &[at, size]));
+            if size > 0 {
+                calls.push(Call::new(Kind::UnmapGpa, 0, &[at, size]));
+                for gpa in 0..4 {
+                    if gpa + size <= 4 {
+                        calls.push(Call::new(Kind::Map, 0, &[at, gpa, size, 1]));
+                    }
+                }
+            }
+        }
+    }
+    calls
+}
