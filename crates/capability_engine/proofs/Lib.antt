@@ -6,7 +6,6 @@ pub mod PoolPasses
 pub mod PoolSteps
 pub mod PoolZips
 pub mod RegionTurns
-pub mod RegionValues
 pub mod RegionFinds
 pub mod RegionTwice
 pub mod RegionApplies

@@ -1,5 +1,5 @@
 -- What a turn of each loop does that goes along the list and changes it.
-use Prim.Native.Nat.{ℕ, _≤_, _<_}
+use Prim.Native.Nat.{ℕ, _≤_, _<_, _^_}
 use mathlib.Core.Path.{_≡_, refl, sym, ap, _∙_}
 use mathlib.Core.Bool.{Bool, true, false, _&&_}
 use mathlib.Core.List.{List, [], _∷_, _++_}
@@ -16,6 +16,8 @@ use Rattle.definitions.specs.declared.region.Values.{Values}
 use Rattle.definitions.specs.declared.region.Region.{Region}
 use Rattle.definitions.proofs.Lists.{gap, fill, change}
 use Rattle.definitions.proofs.RegionLaws.{same-eq}
+use Rattle.counts.specs.Capped.{cappedCounts}
+use Rattle.counts.proofs.Laws.{roomy}
 use Rattle.capability_engine.specs.PoolWords.{regionAt, putRegion}
 use Rattle.capability_engine.specs.PoolChain.{records}
 use Rattle.capability_engine.specs.PoolOwn.{Heap, freeOf, Room, Pass, CanInsert, InsertsRegion, PutsGap, CanRemove, Removes}
@@ -192,10 +194,9 @@ pub within-not : (a e : HostAddr) (r : Region) → r .start .0 < a .0 → false 
 unfolding within
 within-not a e r l = simp (lt-leb (a .0) (r .start .0) l)
 
-pub one-in : (f : Values → Values) (a e : HostAddr) (r : Region) (b : Bool) → b ≡ within a e r → b ≡ true → (v : Values) → v ≡ f (r .values)
-    → record { start = r .start; end = r .end; values = v } ≡ changedOne f a e r
-unfolding changedOne region
-one-in f a e r b eb h v ev = rw (← eb, h, ev)
+pub one-in : (f : Values → Values) (a e : HostAddr) (r : Region) (b : Bool) → b ≡ within a e r → b ≡ true → (s : Region) → s ≡ region (r .start) (r .end) (f (r .values)) → s ≡ changedOne f a e r
+unfolding changedOne
+one-in f a e r b eb h s es = rw (← eb, h) es
 
 pub one-out : (f : Values → Values) (a e : HostAddr) (r : Region) (b : Bool) → b ≡ within a e r → b ≡ false → r ≡ changedOne f a e r
 unfolding changedOne
@@ -205,11 +206,22 @@ pub small-in : (f : Values → Values) (a e : HostAddr) (r : Region) (b : Bool) 
 unfolding changedOne region
 small-in f a e r b eb h s = let d : within a e r ≡ true = sym eb ∙ h in rw d at s
 
-pub marked-new : (v : Values) (u : ℕ) → v .refcount ≡ 0 → u ≡ (if v .refcount =? 0 then u else v .counters .uncacheable)
-marked-new v u e = simp (eq-eqb (v .refcount) 0 e)
+small< : (n : ℕ) → n ≤ 65536 → n < 2 ^ 64
+small< n l = omega (arith, l)
 
-pub marked-old : (v : Values) (u : ℕ) → (v .refcount ≡ 0 → ⊥) → v .counters .uncacheable ≡ (if v .refcount =? 0 then u else v .counters .uncacheable)
-marked-old v u e = simp (ne-eqb (v .refcount) 0 e)
+-- counts that are small enough are not capped
+pub small-stays : (a e : HostAddr) (v : Values) → Small v → region a e (cappedCounts v) ≡ region a e v
+unfolding cappedCounts
+small-stays a e v s = sym (λ i. region a e (record {
+  refcount = roomy (v .refcount) (small< (v .refcount) (s .refcount)) i;
+  counters = record {
+    read = roomy (v .counters .read) (small< (v .counters .read) (s .read)) i;
+    write = roomy (v .counters .write) (small< (v .counters .write) (s .write)) i;
+    exec = roomy (v .counters .exec) (small< (v .counters .exec) (s .exec)) i;
+    supervisor = roomy (v .counters .supervisor) (small< (v .counters .supervisor) (s .supervisor)) i;
+    uncacheable = v .counters .uncacheable;
+  };
+}))
 
 small-append : (a b : List Region) → AllSmall (a ++ b) → AllSmall b
 small-append [] b s = s

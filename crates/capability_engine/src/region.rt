@@ -14,7 +14,6 @@ use gen_arena::NewHandle;
 ghost use mathlib.Core.Path.{_≡_};
 ghost use Prim.Native.Nat.{ℕ, _+_, _*_, _-_, _<_, _≤_, max};
 ghost use lib.ListN.{length, getD, set};
-ghost use lib.Dec.{eqb};
 ghost use mathlib.Core.Bool.{not, _&&_, _||_};
 ghost use Rattle.definitions.specs.Tests.{if_then_else_, _<?_, _=?_, _≤?_, bit};
 ghost use Rattle.definitions.specs.Questions.{everyNamed, ranged};
@@ -288,50 +287,12 @@ fn lies_in(r: Region, start: HostAddr, end: HostAddr) -> bool
     }
 }
 
-// The mark is set only where there was no holder.
-fn marked(v: Values, named: u64) -> u64
-    ensures { λ m. ⌜ m ≡ (if eqb (v .refcount) 0 then named else v .counters .uncacheable) ⌝ }
-{
-    if v.refcount == 0 {
-        named
-    } else {
-        v.counters.uncacheable
-    }
-}
-
-// One holder more, and one more of each count that the rights name.
-fn increase(v: Values, rights: u64) -> Values
-    requires { ⌜ Small (raise rights v) ⌝ }
-    ensures { λ r. ⌜ r ≡ raise rights v ⌝ }
-{
-    let c = MemOps(rights).as_counters();
-    let uncacheable = marked(v, c.uncacheable);
-    let counters = Counters {
-        read: v.counters.read + c.read,
-        write: v.counters.write + c.write,
-        exec: v.counters.exec + c.exec,
-        supervisor: v.counters.supervisor + c.supervisor,
-        uncacheable,
-    };
-    Values {
-        refcount: v.refcount + 1,
-        counters,
-    }
-}
-
 fn increase_in(r: Region, start: HostAddr, end: HostAddr, rights: u64) -> Region
     requires { ⌜ Small (changedOne (raise rights) start end r .values) ⌝ }
     ensures { λ s. ⌜ s ≡ changedOne (raise rights) start end r ⌝ }
 {
     if lies_in(r, start, end) {
-        let values = increase(r.values, rights);
-        let from = r.start;
-        let to = r.end;
-        Region {
-            start: from,
-            end: to,
-            values,
-        }
+        counts::increase(r, rights)
     } else {
         r
     }
@@ -442,61 +403,11 @@ pub(crate) fn fill_gaps(
     }
 }
 
-// The difference, 0 where it would be below 0.
-fn minus(a: u64, b: u64) -> u64
-    ensures { λ m. ⌜ m ≡ a - b ⌝ }
-{
-    if b <= a { a - b } else { 0 }
-}
-
-// One holder less, and one less of each count that the rights name; nothing where no holder is left.
-fn decrease(v: Values, rights: u64) -> Values
-    ensures { λ r. ⌜ r ≡ lower rights v ⌝ }
-{
-    if v.refcount <= 1 {
-        let counters = Counters {
-            read: 0,
-            write: 0,
-            exec: 0,
-            supervisor: 0,
-            uncacheable: 0,
-        };
-        return Values {
-            refcount: 0,
-            counters,
-        };
-    }
-    let c = MemOps(rights).as_counters();
-    let read = minus(v.counters.read, c.read);
-    let write = minus(v.counters.write, c.write);
-    let exec = minus(v.counters.exec, c.exec);
-    let supervisor = minus(v.counters.supervisor, c.supervisor);
-    let uncacheable = v.counters.uncacheable;
-    let counters = Counters {
-        read,
-        write,
-        exec,
-        supervisor,
-        uncacheable,
-    };
-    Values {
-        refcount: v.refcount - 1,
-        counters,
-    }
-}
-
 fn decrease_in(r: Region, start: HostAddr, end: HostAddr, rights: u64) -> Region
     ensures { λ s. ⌜ s ≡ changedOne (lower rights) start end r ⌝ }
 {
     if lies_in(r, start, end) {
-        let values = decrease(r.values, rights);
-        let from = r.start;
-        let to = r.end;
-        Region {
-            start: from,
-            end: to,
-            values,
-        }
+        counts::decrease(r, rights)
     } else {
         r
     }

@@ -11,7 +11,7 @@ decrease-requires : tie.Need-decrease-requires
 decrease-requires c κs = search needs
 
 returns : tie.Need-returns
-returns c = one-in (lower (c .before .before .before .before .before .args .rights)) (c .before .before .before .before .before .args .start) (c .before .before .before .before .before .args .end) (c .before .before .before .before .before .args .r) _ (c .before .before .before .before .lies-in .ensures) (c .before .before .before .if1 .taken) _ (c .before .before .decrease .ensures)
+returns c = one-in (lower (c .before .before .before .args .rights)) (c .before .before .before .args .start) (c .before .before .before .args .end) (c .before .before .before .args .r) _ (c .before .before .lies-in .ensures) (c .before .if1 .taken) _ (c .decrease .ensures)
 
 returns-2 : tie.Need-returns-2
 returns-2 c = one-out (lower (c .before .before .args .rights)) (c .before .before .args .start) (c .before .before .args .end) (c .before .before .args .r) _ (c .before .lies-in .ensures) (c .if1 .left)

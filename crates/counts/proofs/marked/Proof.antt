@@ -1,0 +1,12 @@
+use borrow.Author.Tests.{ne-eqb}
+use Rattle.counts.proofs.marked.Statement.{statement}
+use Rattle.counts.proofs.marked.Tie as tie
+
+returns : tie.Need-returns
+returns c = simp (c .if1 .taken)
+
+returns-2 : tie.Need-returns-2
+returns-2 c = simp (ne-eqb (c .before .args .holders) 0 (c .if1 .left))
+
+pub marked-spec : {M : Type 1} → statement M
+marked-spec = tie.close (tie.spec returns returns-2)
