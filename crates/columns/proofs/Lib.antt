@@ -1,4 +1,4 @@
 pub mod Steps
 pub mod Room
-pub mod Shift
+pub mod Over
 pub mod Again

@@ -1,10 +1,11 @@
 // Numbers in fixed columns, as the script and its output have them: read from bytes, and written over bytes.
 ghost use mathlib.Core.Path.{_≡_};
+ghost use mathlib.Core.Bool.{_&&_};
 ghost use Prim.Native.Nat.{_+_, _-_, _<_, _≤_};
 ghost use lib.ListN.{length, drop};
 ghost use lib.Seq.{sets};
-ghost use Rattle.definitions.specs.Tests.{_≤?_};
-ghost use Rattle.definitions.specs.Script.{columnOf, digitsOf, digitOrSpace, spaced, numberIn};
+ghost use Rattle.definitions.specs.Tests.{_<?_, _≤?_};
+ghost use Rattle.definitions.specs.Script.{columnOf, digitsOf, spaced, numberIn};
 ghost use Rattle.columns.specs.Columns.{columnFrom, Wrote};
 
 // What a column says.
@@ -95,25 +96,58 @@ pub fn has_room(len: usize, at: usize, size: usize) -> bool
     true
 }
 
-// The last digit of m, or a space where nothing is left of it.
-fn cell(m: u64) -> u8
-    ensures { λ r. ⌜ r ≡ digitOrSpace m ⌝ }
+// Spaces in so many columns.
+fn spaces(out: &mut [u8], at: usize, columns: usize)
+    requires { ⌜ at + columns ≤ length (now out) ⌝ }
+    ensures { λ _. ⌜ now (out .exit) ≡ sets (now (out .entry)) at (spaced columns 0) ⌝ }
 {
-    if m == 0 { 32 } else { 48 + (m % 10) as u8 }
+    let mut i = 0;
+    while i < columns {
+        out[at + i] = 32;
+        i += 1;
+    }
 }
 
-// The columns before a number's last, from the right to the left.
-fn fill(out: &mut [u8], at: usize, columns: usize, n: u64)
-    requires { ⌜ at + columns ≤ length (now out) ⌝ }
+// Are there two columns, and two digits for them?
+fn two_more(columns: usize, n: u64) -> bool
+    ensures { λ r. ⌜ r ≡ (1 <? columns) && (9 <? n) ⌝ }
+{
+    if columns < 2 {
+        return false;
+    }
+    9 < n
+}
+
+// The digits of a number over spaces, from the right to the left, as many as it has. Two digits cost one long division.
+fn over_spaces(out: &mut [u8], at: usize, columns: usize, n: u64)
+    requires { ⌜ (at + columns ≤ length (now out)) × (sets (now out) at (spaced columns 0) ≡ now out) ⌝ }
     ensures { λ _. ⌜ now (out .exit) ≡ sets (now (out .entry)) at (spaced columns n) ⌝ }
 {
     let mut k = columns;
     let mut m = n;
-    while k > 0 {
-        k -= 1;
-        out[at + k] = cell(m);
-        m = m / 10;
+    while two_more(k, m) {
+        k -= 2;
+        let two = m % 100;
+        out[at + k + 1] = 48 + (two % 10) as u8;
+        out[at + k] = 48 + (two / 10) as u8;
+        m = m / 100;
     }
+    if m == 0 {
+        return;
+    }
+    if k == 0 {
+        return;
+    }
+    out[at + k - 1] = 48 + (m % 10) as u8;
+}
+
+// The columns before a number's last.
+fn fill(out: &mut [u8], at: usize, columns: usize, n: u64)
+    requires { ⌜ at + columns ≤ length (now out) ⌝ }
+    ensures { λ _. ⌜ now (out .exit) ≡ sets (now (out .entry)) at (spaced columns n) ⌝ }
+{
+    spaces(out, at, columns);
+    over_spaces(out, at, columns, n);
 }
 
 // How many columns stand before the last.
