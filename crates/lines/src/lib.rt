@@ -1,13 +1,13 @@
 // The script's lines, read, and the lines of the output, each written whole into a lent slice or not at all.
 ghost use mathlib.Core.Path.{_≡_};
 ghost use mathlib.Core.List.{[], _∷_};
-ghost use Prim.Native.Nat.{_+_, _*_, _≤_};
+ghost use Prim.Native.Nat.{_+_, _*_, _<_, _≤_};
 ghost use lib.ListN.{length, take, drop, replicate};
 ghost use lib.Seq.{sets};
 ghost use Rattle.definitions.specs.Tests.{each};
 ghost use Rattle.definitions.specs.Script.{numbers, columnsOf, arity, callOf, lineOf, numberIn, heading, answerLine, mappingLine};
 ghost use Rattle.columns.specs.Columns.{Wrote};
-ghost use Rattle.lines.specs.Lines.{lineFrom, readAs, takes};
+ghost use Rattle.lines.specs.Lines.{lineFrom, readAs, Leads, takes};
 use columns::Column;
 use columns::Put;
 use definitions::Answer;
@@ -119,6 +119,34 @@ pub fn parse_line(line: &[u8]) -> Line
         return Line::Malformed;
     }
     call_of(letter, k, found[0], found[1], found[2], found[3])
+}
+
+// What comes next in an input: a call's line with its end, up to a place; or anything else.
+pub enum Ahead {
+    Whole(Call, usize),
+    Other,
+}
+
+// A call's line that lies in the input whole is read where it lies. Its letter says where its end has to be.
+pub fn line_ahead(input: &[u8], from: usize) -> Ahead
+    requires { ⌜ from < length (now input) ⌝ }
+    ensures { λ r. ⌜ Leads (now (input .entry)) from r ⌝ }
+{
+    let letter = input[from];
+    let n = arity_of(letter);
+    let size = 3 + 21 * n;
+    if input.len() - from <= size {
+        return Ahead::Other;
+    }
+    let end = from + size;
+    if input[end] != b'\n' {
+        return Ahead::Other;
+    }
+    let said = parse_line(&input[from..end]);
+    let Line::Call(call) = said else {
+        return Ahead::Other;
+    };
+    Ahead::Whole(call, end + 1)
 }
 
 // The bytes of a line go behind the len that are held of it, as many as line takes, up to the line's end, which is passed. No
