@@ -8,7 +8,11 @@ use lib.ListN.{length, take, drop, length-drop}
 use lib.Seq.{drop-drop}
 use Rattle.definitions.specs.Calls.{State}
 use Rattle.definitions.specs.Script.{Line, lineOf, printed, left, outputFrom, leftFrom}
-use Rattle.lines.specs.Lines.{lineFrom, linesWith, takes}
+use Rattle.definitions.specs.declared.call.Call.{Call}
+use Rattle.lines.specs.Lines.{lineFrom, linesWith, Begins, Leads, takes}
+use Rattle.lines.specs.declared.Line.the-variants as is
+use Rattle.lines.specs.declared.Ahead.{Ahead}
+use Rattle.lines.specs.declared.Ahead.the-variants.{Whole}
 use Rattle.lines.specs.declared.Taken.{Taken}
 use Rattle.lines.proofs.Pieces.{Takes, taken}
 use Rattle.capability_engine.specs.declared.script.Task.{Task}
@@ -34,6 +38,39 @@ left-said : (ls : List (List ℕ)) (s : State) → leftFrom s ls ≡ leftOf s (m
 unfolding leftFrom leftOf
 left-said [] s = refl
 left-said (l ∷ ls) s = left-said ls (left s (lineOf l))
+
+-- a line has ended
+module _ (line line′ : List ℕ) (len : ℕ) (input : List ℕ) (used end : ℕ) (said : List ℕ) (size : length line′ ≡ 88) (ahead : used < end)
+    (ends : end ≤ length input)
+    (same : (b : List ℕ) → map lineOf (linesWith (take len line) (drop used input ++ b)) ≡ lineOf said ∷ map lineOf (linesWith [] (drop end input ++ b))) where
+  hears-end : (task : Task) → task ≡ taskOf (lineFrom (lineOf said)) → Hears line line′ len input used (record { len = 0; used = end; task = task })
+  unfolding outputOf leftOf
+  hears-end task f =
+      let x : Line = lineOf said in
+      let a = asks said in
+      rw f
+      (record {
+        size = size;
+        short = omega arith;
+        ahead = ahead;
+        taken = ends;
+        sound = a .sound;
+        prints = λ s b. output-said (linesWith (take len line) (drop used input ++ b)) s ∙ ap (outputOf s) (same b)
+            ∙ ap (λ (l : List (List ℕ)). printed s x ++ l) (sym (output-said (linesWith [] (drop end input ++ b)) (left s x)))
+            ∙ rw (a .prints s, a .leaves s);
+        leaves = λ s b. left-said (linesWith (take len line) (drop used input ++ b)) s ∙ ap (leftOf s) (same b)
+            ∙ sym (left-said (linesWith [] (drop end input ++ b)) (left s x))
+            ∙ rw (a .leaves s);
+      })
+
+-- none of it was held, and it lies in the input whole
+pub hears-ahead : (line : List ℕ) (len : ℕ) (input : List ℕ) (used : ℕ) (r : Ahead) (c : Call) (end : ℕ) (task : Task) → length line ≡ 88 → len ≤ 0
+    → Leads input used r → r ≡ Whole c end → task ≡ taskOf (is.Call c) → Hears line line len input used (record { len = 0; used = end; task = task })
+hears-ahead line len input used r c end task size z l q f =
+    let g : Begins input used c end = subst (Leads input used) q l in
+    let none : len ≡ 0 = omega arith in
+    hears-end line line len input used end (g .line) size (g .ahead) (g .taken) (λ b. rw none (ap (map lineOf) (g .lines b)))
+    task (f ∙ ap (λ (l : Line). taskOf (lineFrom l)) (sym (g .says)))
 
 module _ (line line′ : List ℕ) (len : ℕ) (input : List ℕ) (used : ℕ) (t : Taken) (size : length line ≡ 88) (short : len ≤ 88)
     (more : used < length input) (e : (line′, t) ≡ takes line len used (drop used input)) where
@@ -71,23 +108,6 @@ module _ (line line′ : List ℕ) (len : ℕ) (input : List ℕ) (used : ℕ) (
   -- it has ended
   pub hears-line : (task : Task) → t .ended ≡ true → task ≡ taskOf (lineFrom (lineOf (take (t .len) line′)))
       → Hears line line′ len input used (record { len = 0; used = t .used; task = task })
-  unfolding outputOf leftOf
   hears-line task q f =
-      let x : Line = lineOf (take (t .len) line′) in
-      let a = asks (take (t .len) line′) in
-      let same : (b : List ℕ) → map lineOf (linesWith (take len line) (drop used input ++ b)) ≡ x ∷ map lineOf (linesWith [] (drop (t .used) input ++ b))
-      = λ b. took .ended q b ∙ rw rest in
-      rw f
-      (record {
-        size = took .size;
-        short = omega arith;
-        ahead = took .ahead some;
-        taken = ends;
-        sound = a .sound;
-        prints = λ s b. output-said (linesWith (take len line) (drop used input ++ b)) s ∙ ap (outputOf s) (same b)
-            ∙ ap (λ (l : List (List ℕ)). printed s x ++ l) (sym (output-said (linesWith [] (drop (t .used) input ++ b)) (left s x)))
-            ∙ rw (a .prints s, a .leaves s);
-        leaves = λ s b. left-said (linesWith (take len line) (drop used input ++ b)) s ∙ ap (leftOf s) (same b)
-            ∙ sym (left-said (linesWith [] (drop (t .used) input ++ b)) (left s x))
-            ∙ rw (a .leaves s);
-      })
+      hears-end line line′ len input used (t .used) (take (t .len) line′) (took .size) (took .ahead some) ends
+      (λ b. took .ended q b ∙ rw rest) task f

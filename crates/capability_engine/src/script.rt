@@ -14,7 +14,9 @@ use columns::has_room;
 use definitions::Answer;
 use definitions::Call;
 use definitions::Refusal;
+use lines::Ahead;
 use lines::Line;
+use lines::line_ahead;
 use lines::parse_line;
 use lines::put_answer;
 use lines::put_mapping;
@@ -103,8 +105,9 @@ fn task_of(line: Line) -> Task
     }
 }
 
-// Bytes are taken up to the end of a line, or to their own.
-fn hear(line: &mut [u8], len: usize, input: &[u8], used: usize) -> Heard
+// Bytes are held up to the end of a line, or to their own: the line began before, or does not lie in the input whole, or is no
+// call.
+fn hear_bytes(line: &mut [u8], len: usize, input: &[u8], used: usize) -> Heard
     requires { ⌜ (length (now line) ≡ 88) × (len ≤ 88) × (used < length (now input)) ⌝ }
     ensures { λ r. ⌜ Hears (now (line .entry)) (now (line .exit)) len (now (input .entry)) used r ⌝ }
 {
@@ -122,6 +125,26 @@ fn hear(line: &mut [u8], len: usize, input: &[u8], used: usize) -> Heard
     Heard {
         len: 0,
         used: taken.used,
+        task,
+    }
+}
+
+// Bytes are taken up to the end of a line, or to their own. A call's line that lies in the input whole is not copied.
+fn hear(line: &mut [u8], len: usize, input: &[u8], used: usize) -> Heard
+    requires { ⌜ (length (now line) ≡ 88) × (len ≤ 88) × (used < length (now input)) ⌝ }
+    ensures { λ r. ⌜ Hears (now (line .entry)) (now (line .exit)) len (now (input .entry)) used r ⌝ }
+{
+    if 0 < len {
+        return hear_bytes(line, len, input, used);
+    }
+    let ahead = line_ahead(input, used);
+    let Ahead::Whole(call, end) = ahead else {
+        return hear_bytes(line, len, input, used);
+    };
+    let task = task_of(Line::Call(call));
+    Heard {
+        len: 0,
+        used: end,
         task,
     }
 }

@@ -1,49 +1,54 @@
-use mathlib.Core.Path.{sym, ap, _∙_}
-use lib.Seq.{length-take-le}
-use borrow.Author.Tests.{not-true, not-false}
-use Rattle.capability_engine.specs.ScriptSteps.{taskOf}
-use Rattle.capability_engine.proofs.ScriptHears.{hears-room, hears-part, hears-line}
+use native.Mathlib.Omega.{arith}
+use Rattle.capability_engine.proofs.ScriptHears.{hears-ahead}
 use borrow.Author.Needs.{needs}
 use Rattle.capability_engine.proofs.script.hear.Statement.{statement}
 use Rattle.capability_engine.proofs.script.hear.Tie as tie
 
-take-line-requires : tie.Need-take-line-requires
-take-line-requires c κs = search needs
+hear-bytes-requires : tie.Need-hear-bytes-requires
+hear-bytes-requires c κs = search needs
 
 same-length : tie.Need-same-length
 same-length c = search needs
 
 returns : tie.Need-returns
-returns c = hears-part _ _ _ _ _ _ (c .before .before .before .before .before .before .before .before .pre .0) (c .before .before .before .before .before .before .before .before .pre .1) (c .before .before .before .before .before .before .before .before .pre .2) (c .before .before .before .before .take-line .ensures) (not-true _ (c .if1 .taken))
+returns c = search needs
 
-slice-reshare-prefix-parse-line : tie.Need-slice-reshare-prefix-parse-line
-slice-reshare-prefix-parse-line c = hears-room _ _ _ _ _ _ (c .before .before .before .before .before .before .before .before .pre .0) (c .before .before .before .before .before .before .before .before .pre .1) (c .before .before .before .before .before .before .before .before .pre .2) (c .before .before .before .before .take-line .ensures)
+line-ahead-requires : tie.Need-line-ahead-requires
+line-ahead-requires c κs = search needs
 
-slice-aggregate-parse-line : tie.Need-slice-aggregate-parse-line
-slice-aggregate-parse-line c = sym (length-take-le _ _ (hears-room _ _ _ _ _ _ (c .before .before .before .before .before .before .before .before .before .pre .0) (c .before .before .before .before .before .before .before .before .before .pre .1) (c .before .before .before .before .before .before .before .before .before .pre .2) (c .before .before .before .before .before .take-line .ensures)))
+enum-known-ahead : tie.Need-enum-known-ahead
+enum-known-ahead c = search needs
 
-parse-line-requires : tie.Need-parse-line-requires
-parse-line-requires c κs = search needs
+enum-told : tie.Need-enum-told
+enum-told c = search needs
 
-task-of-requires : tie.Need-task-of-requires
-task-of-requires c κs = search needs
+hear-bytes-requires-2 : tie.Need-hear-bytes-requires-2
+hear-bytes-requires-2 c κs = search needs
 
 same-length-2 : tie.Need-same-length-2
 same-length-2 c = search needs
 
 returns-2 : tie.Need-returns-2
-returns-2 c = hears-line _ _ _ _ _ _ (c .before .before .before .before .before .before .before .before .before .before .before .pre .0) (c .before .before .before .before .before .before .before .before .before .before .before .pre .1) (c .before .before .before .before .before .before .before .before .before .before .before .pre .2) (c .before .before .before .before .before .before .before .take-line .ensures) _ (not-false _ (c .before .before .before .if1 .left)) (c .task-of .ensures ∙ ap taskOf (c .before .parse-line .ensures))
+returns-2 c = search needs
+
+task-of-requires : tie.Need-task-of-requires
+task-of-requires c κs = search needs
+
+returns-3 : tie.Need-returns-3
+returns-3 c = hears-ahead _ _ _ _ (c .before .before .before .before .line-ahead .result) _ _ _ (c .before .before .before .before .before .before .before .before .pre .0) (omega arith) (c .before .before .before .before .line-ahead .ensures) (c .before .before .ahead .given .1) (c .task-of .ensures)
 
 pub hear-spec : {M : Type 1} → statement M
 hear-spec =
     tie.close
     (tie.spec
-    take-line-requires
+    hear-bytes-requires
     same-length
     returns
-    slice-reshare-prefix-parse-line
-    slice-aggregate-parse-line
-    parse-line-requires
-    task-of-requires
+    line-ahead-requires
+    enum-known-ahead
+    enum-told
+    hear-bytes-requires-2
     same-length-2
-    returns-2)
+    returns-2
+    task-of-requires
+    returns-3)
