@@ -1,5 +1,5 @@
 -- One byte of a column: what digitsOf and columnOf say of the bytes from i on.
-use mathlib.Core.Path.{_≡_}
+use mathlib.Core.Path.{_≡_, sym, ap, _∙_}
 use mathlib.Core.Bool.{true, false}
 use mathlib.Core.List.{List, [], _∷_}
 use Prim.Native.Nat.{ℕ, suc, _+_, _-_, _*_, _<_, _≤_}
@@ -101,3 +101,30 @@ module _ (s : List ℕ) (i : ℕ) (h : length s ≤ i) where
   pub column-end : unread ≡ columnOf (drop i s)
   unfolding columnOf
   column-end = rw none
+
+-- four spaces, as one number
+space-first : (x t y : ℕ) → x < 256 → x + 256 * t ≡ 32 + 256 * y → (x ≡ 32) × (t ≡ y)
+space-first x t y h e = let same : t ≡ y = omega arith in (omega arith, same)
+
+module _ (a b c d : ℕ) (p : a < 256) (q : b < 256) (u : c < 256)
+    (e : a + 256 * b + 65536 * (c + 256 * d) ≡ 538976288) where
+  spaces-are : (a ≡ 32) × (b ≡ 32) × (c ≡ 32) × (d ≡ 32)
+  spaces-are =
+      let first = space-first a (b + 256 * (c + 256 * d)) 2105376 p (omega arith) in
+      let second = space-first b (c + 256 * d) 8224 q (first .1) in
+      let third = space-first c d 32 u (second .1) in
+      (first .0, second .0, third .0, third .1)
+
+  pub column-spaces : (s : List ℕ) (i : ℕ) → i + 4 ≤ length s → a ≡ getD s i 0 → b ≡ getD s (i + 1) 0 → c ≡ getD s (i + 2) 0
+      → d ≡ getD s (i + 3) 0 → columnOf (drop (i + 4) s) ≡ columnOf (drop i s)
+  column-spaces s i h w x y z =
+      let four : i + 4 ≡ i + 3 + 1 = omega arith in
+      let three : i + 3 ≡ i + 2 + 1 = omega arith in
+      let two : i + 2 ≡ i + 1 + 1 = omega arith in
+      ap (λ (k : ℕ). columnOf (drop k s)) four
+      ∙ column-space s (i + 3) (omega arith) (sym z ∙ spaces-are .3)
+      ∙ ap (λ (k : ℕ). columnOf (drop k s)) three
+      ∙ column-space s (i + 2) (omega arith) (sym y ∙ spaces-are .2)
+      ∙ ap (λ (k : ℕ). columnOf (drop k s)) two
+      ∙ column-space s (i + 1) (omega arith) (sym x ∙ spaces-are .1)
+      ∙ column-space s i (omega arith) (sym w ∙ spaces-are .0)

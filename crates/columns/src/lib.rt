@@ -1,7 +1,7 @@
 // Numbers in fixed columns, as the script and its output have them: read from bytes, and written over bytes.
 ghost use mathlib.Core.Path.{_≡_};
-ghost use mathlib.Core.Bool.{_&&_};
-ghost use Prim.Native.Nat.{_+_, _-_, _<_, _≤_};
+ghost use mathlib.Core.Bool.{true, _&&_};
+ghost use Prim.Native.Nat.{_+_, _-_, _*_, _<_, _≤_};
 ghost use lib.ListN.{length, drop};
 ghost use lib.Seq.{sets};
 ghost use Rattle.definitions.specs.Tests.{_<?_, _≤?_};
@@ -26,6 +26,20 @@ fn wide(x: u8) -> u64
     x as u64
 }
 
+// Is a number of one digit more 2^64 or above? One test says no of all but the longest.
+fn too_big(n: u64, digit: u64) -> bool
+    requires { ⌜ digit < 10 ⌝ }
+    ensures { λ r. ⌜ r ≡ (18446744073709551616 ≤? n * 10 + digit) ⌝ }
+{
+    if n < 1844674407370955161 {
+        return false;
+    }
+    if n > 1844674407370955161 {
+        return true;
+    }
+    digit > 5
+}
+
 // The digits from a place on, after a number that was read before them.
 fn digits(bytes: &[u8], from: usize, first: u64) -> Column
     requires { ⌜ from ≤ length (now bytes) ⌝ }
@@ -41,26 +55,45 @@ fn digits(bytes: &[u8], from: usize, first: u64) -> Column
         if b > 57 {
             return Column::Malformed;
         }
-        // 10 n has to be below 2^64, and then what is added to it
-        if n > 1844674407370955161 {
-            return Column::Malformed;
-        }
-        let tens = n * 10;
         let d = b - 48;
-        if d > 18446744073709551615 - tens {
+        if too_big(n, d) {
             return Column::Malformed;
         }
-        n = tens + d;
+        n = n * 10 + d;
         i += 1;
     }
     Column::Number(n)
+}
+
+// Are there four spaces? They are compared as one number.
+fn four_spaces(bytes: &[u8], i: usize) -> bool
+    requires { ⌜ i + 4 ≤ length (now bytes) ⌝ }
+    ensures { λ r. ⌜ (r ≡ true → columnOf (drop (i + 4) (now (bytes .entry))) ≡ columnOf (drop i (now (bytes .entry)))) ⌝ }
+{
+    let low = wide(bytes[i]) + 256 * wide(bytes[i + 1]);
+    let high = wide(bytes[i + 2]) + 256 * wide(bytes[i + 3]);
+    low + 65536 * high == 538976288
+}
+
+// Spaces are passed four at a time, as far as that goes.
+fn past_fours(bytes: &[u8]) -> usize
+    ensures { λ r. ⌜ (r ≤ length (now (bytes .entry))) × (columnOf (drop r (now (bytes .entry))) ≡ columnOf (now (bytes .entry))) ⌝ }
+{
+    let mut i = 0;
+    while 3 < bytes.len() - i {
+        if !four_spaces(bytes, i) {
+            return i;
+        }
+        i += 4;
+    }
+    i
 }
 
 // A number at the right of all these columns: spaces, then digits that begin with another than 0, or 0 alone.
 pub fn read(bytes: &[u8]) -> Column
     ensures { λ r. ⌜ r ≡ columnFrom (columnOf (now (bytes .entry))) ⌝ }
 {
-    let mut i = 0;
+    let mut i = past_fours(bytes);
     while i < bytes.len() {
         let b = wide(bytes[i]);
         if b != 32 {

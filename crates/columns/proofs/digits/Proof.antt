@@ -1,7 +1,8 @@
 use native.Mathlib.Omega.{arith}
 use Prim.Native.Nat.{ℕ, _+_, _*_, _-_, _≤_}
-use mathlib.Core.Path.{_≡_, refl, ap, _∙_}
+use mathlib.Core.Path.{_≡_, refl, sym, ap, _∙_}
 use lib.ListN.{length, getD, drop}
+use borrow.Author.Tests.{leb-true, leb-false}
 use borrow.Author.Needs.{needs}
 use Rattle.definitions.specs.Script.{digitsOf}
 use Rattle.columns.specs.Columns.{columnFrom}
@@ -30,20 +31,17 @@ returns c = ap columnFrom (digits-no (c .before .before .before .before .before 
 returns-2 : tie.Need-returns-2 Inv-loop μ-loop
 returns-2 c = ap columnFrom (digits-no (c .before .before .before .before .before .before .before .args .bytes .now) (c .before .before .before .before .before .loop .i) (omega arith) (c .before .before .before .before .before .loop .n) (above-digits (getD (c .before .before .before .before .before .before .before .args .bytes .now) (c .before .before .before .before .before .loop .i) 0) (omega arith)) ∙ c .before .before .before .before .before .loop .inv .1)
 
+too-big-requires : tie.Need-too-big-requires Inv-loop μ-loop
+too-big-requires c κs = search needs
+
 returns-3 : tie.Need-returns-3 Inv-loop μ-loop
-returns-3 c = ap columnFrom (digits-big (c .before .before .before .before .before .before .before .before .args .bytes .now) (c .before .before .before .before .before .before .loop .i) (omega arith) (c .before .before .before .before .before .before .loop .n) (among-digits (getD (c .before .before .before .before .before .before .before .before .args .bytes .now) (c .before .before .before .before .before .before .loop .i) 0) (omega arith) (omega arith)) (omega arith) ∙ c .before .before .before .before .before .before .loop .inv .1)
+returns-3 c = ap columnFrom (digits-big (c .before .before .before .before .before .before .before .before .before .args .bytes .now) (c .before .before .before .before .before .before .before .loop .i) (omega arith) (c .before .before .before .before .before .before .before .loop .n) (among-digits (getD (c .before .before .before .before .before .before .before .before .before .args .bytes .now) (c .before .before .before .before .before .before .before .loop .i) 0) (omega arith) (omega arith)) (omega (arith, leb-true 18446744073709551616 (c .before .before .before .before .before .before .before .loop .n * 10 + (c .before .before .before .before .wide .result - 48)) (sym (c .before .too-big .ensures) ∙ c .if3 .taken))) ∙ c .before .before .before .before .before .before .before .loop .inv .1)
 
-mul-tens : tie.Need-mul-tens Inv-loop μ-loop
-mul-tens c = search needs
-
-sub-if4 : tie.Need-sub-if4 Inv-loop μ-loop
-sub-if4 c = search needs
-
-returns-4 : tie.Need-returns-4 Inv-loop μ-loop
-returns-4 c = ap columnFrom (digits-big (c .before .before .before .before .before .before .before .before .before .args .bytes .now) (c .before .before .before .before .before .before .before .loop .i) (omega arith) (c .before .before .before .before .before .before .before .loop .n) (among-digits (getD (c .before .before .before .before .before .before .before .before .before .args .bytes .now) (c .before .before .before .before .before .before .before .loop .i) 0) (omega arith) (omega arith)) (omega arith) ∙ c .before .before .before .before .before .before .before .loop .inv .1)
+mul-n : tie.Need-mul-n Inv-loop μ-loop
+mul-n c = omega (arith, leb-false 18446744073709551616 (c .before .before .before .before .before .before .before .loop .n * 10 + (c .before .before .before .before .wide .result - 48)) (sym (c .before .too-big .ensures) ∙ c .if3 .left))
 
 add-n : tie.Need-add-n Inv-loop μ-loop
-add-n c = search needs
+add-n c = omega (arith, leb-false 18446744073709551616 (c .before .before .before .before .before .before .before .loop .n * 10 + (c .before .before .before .before .wide .result - 48)) (sym (c .before .too-big .ensures) ∙ c .if3 .left))
 
 add-i : tie.Need-add-i Inv-loop μ-loop
 add-i c = search needs
@@ -52,10 +50,10 @@ loop-less : tie.Need-loop-less Inv-loop μ-loop
 loop-less c = search needs
 
 loop-again : tie.Need-loop-again Inv-loop μ-loop
-loop-again c = (search needs, ap (λ (k : ℕ). digitsOf (c .before .before .before .before .before .before .before .loop .n * 10 + (k - 48)) (drop (c .before .before .before .before .before .before .before .loop .i + 1) (c .before .before .before .before .before .before .before .before .before .args .bytes .now))) (c .before .before .before .before .wide .ensures .0) ∙ digits-more (c .before .before .before .before .before .before .before .before .before .args .bytes .now) (c .before .before .before .before .before .before .before .loop .i) (omega arith) (c .before .before .before .before .before .before .before .loop .n) (among-digits (getD (c .before .before .before .before .before .before .before .before .before .args .bytes .now) (c .before .before .before .before .before .before .before .loop .i) 0) (omega arith) (omega arith)) (omega arith) ∙ c .before .before .before .before .before .before .before .loop .inv .1)
+loop-again c = (search needs, ap (λ (k : ℕ). digitsOf (c .before .before .before .before .before .before .before .loop .n * 10 + (k - 48)) (drop (c .before .before .before .before .before .before .before .loop .i + 1) (c .before .before .before .before .before .before .before .before .before .args .bytes .now))) (c .before .before .before .before .wide .ensures .0) ∙ digits-more (c .before .before .before .before .before .before .before .before .before .args .bytes .now) (c .before .before .before .before .before .before .before .loop .i) (omega arith) (c .before .before .before .before .before .before .before .loop .n) (among-digits (getD (c .before .before .before .before .before .before .before .before .before .args .bytes .now) (c .before .before .before .before .before .before .before .loop .i) 0) (omega arith) (omega arith)) (omega (arith, leb-false 18446744073709551616 (c .before .before .before .before .before .before .before .loop .n * 10 + (c .before .before .before .before .wide .result - 48)) (sym (c .before .too-big .ensures) ∙ c .if3 .left))) ∙ c .before .before .before .before .before .before .before .loop .inv .1)
 
-returns-5 : tie.Need-returns-5 Inv-loop μ-loop
-returns-5 c = ap columnFrom (digits-end (c .before .before .before .args .bytes .now) (c .before .loop .i) (omega arith) (c .before .loop .n) ∙ c .before .loop .inv .1)
+returns-4 : tie.Need-returns-4 Inv-loop μ-loop
+returns-4 c = ap columnFrom (digits-end (c .before .before .before .args .bytes .now) (c .before .loop .i) (omega arith) (c .before .loop .n) ∙ c .before .loop .inv .1)
 
 pub digits-spec : {M : Type 1} → statement M
 digits-spec =
@@ -68,12 +66,11 @@ digits-spec =
     wide-requires
     returns
     returns-2
+    too-big-requires
     returns-3
-    mul-tens
-    sub-if4
-    returns-4
+    mul-n
     add-n
     add-i
     loop-less
     loop-again
-    returns-5)
+    returns-4)

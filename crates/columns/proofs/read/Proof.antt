@@ -15,8 +15,11 @@ Inv-loop bytes i₀ i = (i ≤ length bytes) × (columnOf (drop i bytes) ≡ col
 abbrev μ-loop : tie.MeasureT-loop
 μ-loop bytes i₀ i = length bytes - i
 
+past-fours-requires : tie.Need-past-fours-requires Inv-loop μ-loop
+past-fours-requires c κs = search needs
+
 loop-holds : tie.Need-loop-holds Inv-loop μ-loop
-loop-holds c = search needs
+loop-holds c = c .past-fours .ensures
 
 shared-slice-read-wide : tie.Need-shared-slice-read-wide Inv-loop μ-loop
 shared-slice-read-wide c = search needs
@@ -28,16 +31,16 @@ add-if3 : tie.Need-add-if3 Inv-loop μ-loop
 add-if3 c = search needs
 
 returns : tie.Need-returns Inv-loop μ-loop
-returns c = ap columnFrom (column-zero (c .before .before .before .before .before .before .before .before .args .bytes .now) (c .before .before .before .before .before .before .loop .i) (omega arith) (omega arith) (omega arith) ∙ c .before .before .before .before .before .before .loop .inv .1)
+returns c = ap columnFrom (column-zero (c .before .before .before .before .before .before .before .before .before .args .bytes .now) (c .before .before .before .before .before .before .loop .i) (omega arith) (omega arith) (omega arith) ∙ c .before .before .before .before .before .before .loop .inv .1)
 
 returns-2 : tie.Need-returns-2 Inv-loop μ-loop
-returns-2 c = ap columnFrom (column-zeros (c .before .before .before .before .before .before .before .before .args .bytes .now) (c .before .before .before .before .before .before .loop .i) (omega arith) (omega arith) (c .if3 .left) ∙ c .before .before .before .before .before .before .loop .inv .1)
+returns-2 c = ap columnFrom (column-zeros (c .before .before .before .before .before .before .before .before .before .args .bytes .now) (c .before .before .before .before .before .before .loop .i) (omega arith) (omega arith) (c .if3 .left) ∙ c .before .before .before .before .before .before .loop .inv .1)
 
 returns-3 : tie.Need-returns-3 Inv-loop μ-loop
-returns-3 c = ap columnFrom (column-no (c .before .before .before .before .before .before .before .before .args .bytes .now) (c .before .before .before .before .before .before .loop .i) (omega arith) (λ e. omega arith) (λ e. omega arith) (below-digits (getD (c .before .before .before .before .before .before .before .before .args .bytes .now) (c .before .before .before .before .before .before .loop .i) 0) (omega arith)) ∙ c .before .before .before .before .before .before .loop .inv .1)
+returns-3 c = ap columnFrom (column-no (c .before .before .before .before .before .before .before .before .before .args .bytes .now) (c .before .before .before .before .before .before .loop .i) (omega arith) (λ e. omega arith) (λ e. omega arith) (below-digits (getD (c .before .before .before .before .before .before .before .before .before .args .bytes .now) (c .before .before .before .before .before .before .loop .i) 0) (omega arith)) ∙ c .before .before .before .before .before .before .loop .inv .1)
 
 returns-4 : tie.Need-returns-4 Inv-loop μ-loop
-returns-4 c = ap columnFrom (column-no (c .before .before .before .before .before .before .before .before .before .args .bytes .now) (c .before .before .before .before .before .before .before .loop .i) (omega arith) (λ e. omega arith) (λ e. omega arith) (above-digits (getD (c .before .before .before .before .before .before .before .before .before .args .bytes .now) (c .before .before .before .before .before .before .before .loop .i) 0) (omega arith)) ∙ c .before .before .before .before .before .before .before .loop .inv .1)
+returns-4 c = ap columnFrom (column-no (c .before .before .before .before .before .before .before .before .before .before .args .bytes .now) (c .before .before .before .before .before .before .before .loop .i) (omega arith) (λ e. omega arith) (λ e. omega arith) (above-digits (getD (c .before .before .before .before .before .before .before .before .before .before .args .bytes .now) (c .before .before .before .before .before .before .before .loop .i) 0) (omega arith)) ∙ c .before .before .before .before .before .before .before .loop .inv .1)
 
 add-digits : tie.Need-add-digits Inv-loop μ-loop
 add-digits c = search needs
@@ -46,7 +49,7 @@ digits-requires : tie.Need-digits-requires Inv-loop μ-loop
 digits-requires c κs = search needs
 
 returns-5 : tie.Need-returns-5 Inv-loop μ-loop
-returns-5 c = c .digits .ensures ∙ ap columnFrom (ap (λ (k : ℕ). digitsOf (k - 48) (drop (c .before .before .before .before .before .before .before .before .loop .i + 1) (c .before .before .before .before .before .before .before .before .before .before .args .bytes .now))) (c .before .before .before .before .before .wide .ensures .0) ∙ column-digit (c .before .before .before .before .before .before .before .before .before .before .args .bytes .now) (c .before .before .before .before .before .before .before .before .loop .i) (omega arith) (omega arith) (omega arith) ∙ c .before .before .before .before .before .before .before .before .loop .inv .1)
+returns-5 c = c .digits .ensures ∙ ap columnFrom (ap (λ (k : ℕ). digitsOf (k - 48) (drop (c .before .before .before .before .before .before .before .before .loop .i + 1) (c .before .before .before .before .before .before .before .before .before .before .before .args .bytes .now))) (c .before .before .before .before .before .wide .ensures .0) ∙ column-digit (c .before .before .before .before .before .before .before .before .before .before .before .args .bytes .now) (c .before .before .before .before .before .before .before .before .loop .i) (omega arith) (omega arith) (omega arith) ∙ c .before .before .before .before .before .before .before .before .loop .inv .1)
 
 add-i : tie.Need-add-i Inv-loop μ-loop
 add-i c = search needs
@@ -55,10 +58,10 @@ loop-less : tie.Need-loop-less Inv-loop μ-loop
 loop-less c = search needs
 
 loop-again : tie.Need-loop-again Inv-loop μ-loop
-loop-again c = (search needs, column-space (c .before .before .before .before .before .before .args .bytes .now) (c .before .before .before .before .loop .i) (omega arith) (omega arith) ∙ c .before .before .before .before .loop .inv .1)
+loop-again c = (search needs, column-space (c .before .before .before .before .before .before .before .args .bytes .now) (c .before .before .before .before .loop .i) (omega arith) (omega arith) ∙ c .before .before .before .before .loop .inv .1)
 
 returns-6 : tie.Need-returns-6 Inv-loop μ-loop
-returns-6 c = ap columnFrom (column-end (c .before .before .before .args .bytes .now) (c .before .loop .i) (omega arith) ∙ c .before .loop .inv .1)
+returns-6 c = ap columnFrom (column-end (c .before .before .before .before .args .bytes .now) (c .before .loop .i) (omega arith) ∙ c .before .loop .inv .1)
 
 pub read-spec : {M : Type 1} → statement M
 read-spec =
@@ -66,6 +69,7 @@ read-spec =
     (tie.spec
     Inv-loop
     μ-loop
+    past-fours-requires
     loop-holds
     shared-slice-read-wide
     wide-requires
