@@ -11,6 +11,10 @@ pub mod RegionTwice
 pub mod RegionApplies
 pub mod RegionSteps
 pub mod RegionAnswers
+pub mod PoolWindows
+pub mod RegionWindows
+pub mod RegionBetween
+pub mod RegionSkips
 pub mod RegionTracks
 pub mod RegionListing
 pub mod StreamLists

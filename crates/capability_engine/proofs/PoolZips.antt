@@ -47,7 +47,7 @@ pub record ZipOf (nx0 ws0 : List ℕ) (fl0 : Heap) (nx ws : List ℕ) (fl : Heap
 abbrev pub ahead : List ℕ → ℕ → ℕ
 ahead nx q = length (slots nx (getD nx q 0))
 
-own-ahead : {nx free : List ℕ} (pre cur : List ℕ) → Own nx (pre ++ cur) free → Listed nx (getD nx (last 1024 pre) 0) cur
+pub own-ahead : {nx free : List ℕ} (pre cur : List ℕ) → Own nx (pre ++ cur) free → Listed nx (getD nx (last 1024 pre) 0) cur
 own-ahead {nx} {free} pre cur o =
     record { size = o .size; seg = seg-second nx 1024 pre cur 1024 (o .ring); few = omega (arith, o .few, length-append pre cur) }
 

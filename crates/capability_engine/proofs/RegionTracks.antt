@@ -34,9 +34,10 @@ use Rattle.definitions.proofs.Stored.{Counted}
 use Rattle.definitions.proofs.Tables.{canRaiseOn, newRecordsOn, addOn, removeOn}
 use Rattle.definitions.proofs.TableLaws.{new-records-is}
 use Rattle.capability_engine.specs.PoolWords.{regionAt}
-use Rattle.capability_engine.specs.PoolChain.{Seg, slots, records, Listed, Walkable, storedAt}
-use Rattle.capability_engine.specs.PoolOwn.{Heap, heap, IsHeap, freeOf, Ready, Room, mineOf, recordsOf, Pass}
-use Rattle.capability_engine.specs.RegionPasses.{lowered, changedOne, Small, AllSmall, CanApplyRemove}
+use Rattle.capability_engine.specs.PoolChain.{Seg, slots, records, Listed, Walkable, storedAt, All, SkipsBelow}
+use Rattle.capability_engine.specs.PoolOwn.{Heap, heap, IsHeap, freeOf, Ready, Room, mineOf, recordsOf, Pass, Place}
+use Rattle.capability_engine.specs.RegionPasses.{lowered, changedOne, Small, AllSmall, CanAddBetween, CanRemoveBetween}
+use Rattle.capability_engine.specs.declared.region.Skipped.{Skipped}
 use Rattle.capability_engine.specs.RegionAsks.{Tracked, Untouched, Changes, Askable}
 use Rattle.capability_engine.proofs.PoolLinks.{slots-are, seg-frame}
 use Rattle.capability_engine.proofs.PoolOwns.{seg-low, bit-le}
@@ -239,6 +240,10 @@ cuts-room n a e k rs l h =
 
 -- ---- the list in the ring
 
+all-below : (low a : HostAddr) → low .0 ≤ a .0 → (rs : List Region) → All (λ r. r .end .0 < low .0) rs → All (λ r. r .end .0 < a .0) rs
+all-below low a l [] h = tt
+all-below low a l (r ∷ rs) h = (omega (arith, h .0), all-below low a l rs (h .1))
+
 module _ (nx ws : List ℕ) (fl : Heap) (head : ℕ) (t : Tracked nx ws fl head) where
   size : length nx ≡ 1025
   size = sym (length-set nx 1024 head) ∙ t .ready .own .size
@@ -279,8 +284,10 @@ module _ (nx ws : List ℕ) (fl : Heap) (head : ℕ) (t : Tracked nx ws fl head)
   runs : Runs 0 (storedAt nx ws head)
   runs = rw (t .shown) (regions-runs (t .values))
 
-  pub tracked-asks : (room : ℕ) → room ≡ length (freeOf fl) → Walkable nx ws head × (room ≤ 1024)
-  tracked-asks room er = (tracked-walk, omega (arith, few-in))
+  -- what was passed lies before its last slot in the ring
+  tracked-place : (a low : HostAddr) (q : Skipped) → SkipsBelow nx ws head low q → low .0 ≤ a .0 → Place (λ r. r .end .0 < a .0) (set nx 1024 head) ws (q .last)
+  tracked-place a low q g l =
+      record { pre = g .done; cur = slots nx (q .next); whole = mine-is ∙ g .whole; here = g .here; each = all-below low a l (records ws (g .done)) (g .each) }
 
   pub tracked-askable : (room : ℕ) → room ≡ length (freeOf fl) → Askable nx ws head room
   tracked-askable room er = record { listed = tracked-walk; ordered = runs .ordered; few = omega (arith, few-in) }
@@ -311,8 +318,9 @@ module _ (nx ws : List ℕ) (fl : Heap) (head : ℕ) (t : Tracked nx ws fl head)
           rw (stored-is, t .shown)
           (change-small k a e _ (fill-low a e _ (cut-low e _ (cut-low a _ (regions-low (t .values) (t .blank) (t .counted))))))
 
-      pub add-applies : Ready (set nx 1024 head) ws fl × (Room (set nx 1024 head) fl (peak a e (recordsOf (set nx 1024 head) ws)) × AllSmall (change (raise k) a e (peak a e (recordsOf (set nx 1024 head) ws))))
-      add-applies = (t .ready, (add-fits, add-low))
+      pub add-applies : (low : HostAddr) (q : Skipped) → SkipsBelow nx ws head low q → low .0 ≤ a .0 → CanAddBetween (set nx 1024 head) ws fl a e k (q .last)
+      add-applies low q g l =
+          record { order = passed-add .0; ready = t .ready; runs = rw stored-is runs; place = tracked-place a low q g l; room = add-fits; small = add-low }
 
       pub add-changes : (nx' ws' : List ℕ) (fl' : Heap) → Pass (set nx 1024 head) ws fl nx' ws' fl' (added a e k (recordsOf (set nx 1024 head) ws))
           → Changes (addOn (1024 - length (freeOf fl)) (storedAt nx ws head) a e k) a e nx ws fl head nx' ws' fl' (getD nx' 1024 0) (added a e k (storedAt nx ws head)) r
@@ -329,19 +337,22 @@ module _ (nx ws : List ℕ) (fl : Heap) (head : ℕ) (t : Tracked nx ws fl head)
           let q = passed ((1 ≤? length (begun a rs), InvalidRegion) ∷ (a .0 <? lastEnd 0 (begun a rs), EndedBefore) ∷ (cutsFit (1024 - room) a e rs, OutOfMemory) ∷ (canLower a e k rs, CountEmpty) ∷ []) _ (rw (ne-eqb (a .0) (e .0) ne) at (p .1)) in
           (omega arith, q .0 .1 .1 .0)
 
-      pub remove-applies : Ready (set nx 1024 head) ws fl × CanApplyRemove (set nx 1024 head) ws fl a e k
-      remove-applies =
+      pub remove-applies : (low : HostAddr) (q : Skipped) → SkipsBelow nx ws head low q → low .0 ≤ a .0 → CanRemoveBetween (set nx 1024 head) ws fl a e k (q .last)
+      remove-applies low q g l =
           let rs : List Region = storedAt nx ws head in
-          let f = cuts-room (1024 - room) a e k rs (passed-remove .0) (passed-remove .1) in (
-            t .ready,
-            record {
+          let f = cuts-room (1024 - room) a e k rs (passed-remove .0) (passed-remove .1) in
+          record {
+            ready = t .ready;
+            runs = rw stored-is runs;
+            place = tracked-place a low q g l;
+            applies = record {
               order = passed-remove .0;
               ordered = rw stored-is (runs .ordered);
               full = rw stored-is (runs .full);
               first = rw stored-is (omega (arith, f .0, mine-long, few-in));
               second = rw stored-is (omega (arith, f .1, mine-long, few-in));
-            },
-          )
+            };
+          }
 
       pub remove-changes : (nx' ws' : List ℕ) (fl' : Heap) → Pass (set nx 1024 head) ws fl nx' ws' fl' (removed a e k (recordsOf (set nx 1024 head) ws))
           → Changes (removeOn (1024 - length (freeOf fl)) (storedAt nx ws head) a e k) a e nx ws fl head nx' ws' fl' (getD nx' 1024 0) (removed a e k (storedAt nx ws head)) r

@@ -33,7 +33,7 @@ cut-yes : (y : HostAddr) (r : Region) → splits y r ≡ true → (t : List Regi
 unfolding cut
 cut-yes y r d t = rw d
 
-cut-no : (y : HostAddr) (r : Region) → splits y r ≡ false → (t : List Region) → cut y (r ∷ t) ≡ r ∷ cut y t
+pub cut-no : (y : HostAddr) (r : Region) → splits y r ≡ false → (t : List Region) → cut y (r ∷ t) ≡ r ∷ cut y t
 unfolding cut
 cut-no y r d t = rw d
 
@@ -79,11 +79,11 @@ split-not y r l = simp (le-ltb (r .start .0) (y .0) l)
 
 -- ---- joining
 
-join-nil : joined [] ≡ []
+pub join-nil : joined [] ≡ []
 unfolding joined
 join-nil = refl
 
-join-one : (r : Region) → joined (r ∷ []) ≡ r ∷ []
+pub join-one : (r : Region) → joined (r ∷ []) ≡ r ∷ []
 unfolding joined join
 join-one r = refl
 
@@ -97,11 +97,11 @@ joins-facts r q d = go (r .end .0 =? q .start .0) refl (same (r .values) (q .val
     go false a t b h = absurd (let w : _≡_ {A = ℕ} 0 1 = cc in omega arith)
 
 -- what an address joins with depends on its end and values alone, and what it is joined to on its start and values
-joins-front : (r q : Region) (e : HostAddr) (v : Values) → v ≡ q .values → joins r (region (q .start) e v) ≡ joins r q
+pub joins-front : (r q : Region) (e : HostAddr) (v : Values) → v ≡ q .values → joins r (region (q .start) e v) ≡ joins r q
 unfolding joins region
 joins-front r q e v h = rw h
 
-joins-back : (a : HostAddr) (q u : Region) → joins (region a (q .end) (q .values)) u ≡ joins q u
+pub joins-back : (a : HostAddr) (q u : Region) → joins (region a (q .end) (q .values)) u ≡ joins q u
 unfolding joins region
 joins-back a q u = refl
 
@@ -109,7 +109,7 @@ cons-yes : (r q : Region) (qs : List Region) → joins r q ≡ true → join r (
 unfolding join
 cons-yes r q qs d = rw d
 
-cons-no : (r q : Region) (qs : List Region) → joins r q ≡ false → join r (q ∷ qs) ≡ r ∷ q ∷ qs
+pub cons-no : (r q : Region) (qs : List Region) → joins r q ≡ false → join r (q ∷ qs) ≡ r ∷ q ∷ qs
 unfolding join
 cons-no r q qs d = rw d
 
@@ -146,7 +146,7 @@ module _ (r q : Region) where
   unfolding joined joins-both
   join-yes d t = two-yes d (joined t)
 
-  join-no : joins r q ≡ false → (t : List Region) → joined (r ∷ q ∷ t) ≡ r ∷ joined (q ∷ t)
+  pub join-no : joins r q ≡ false → (t : List Region) → joined (r ∷ q ∷ t) ≡ r ∷ joined (q ∷ t)
   unfolding joined
   join-no d t = two-no d (joined t)
 
@@ -223,15 +223,15 @@ small-stays a e v s = sym (λ i. region a e (record {
   };
 }))
 
-small-append : (a b : List Region) → AllSmall (a ++ b) → AllSmall b
+pub small-append : (a b : List Region) → AllSmall (a ++ b) → AllSmall b
 small-append [] b s = s
 small-append (r ∷ a) b s = small-append a b (s .1)
 
-change-cons : (f : Values → Values) (a e : HostAddr) (r : Region) (t : List Region) → change f a e (r ∷ t) ≡ changedOne f a e r ∷ change f a e t
+pub change-cons : (f : Values → Values) (a e : HostAddr) (r : Region) (t : List Region) → change f a e (r ∷ t) ≡ changedOne f a e r ∷ change f a e t
 unfolding change changedOne
 change-cons f a e r t = refl
 
-change-nil : (f : Values → Values) (a e : HostAddr) → change f a e [] ≡ []
+pub change-nil : (f : Values → Values) (a e : HostAddr) → change f a e [] ≡ []
 unfolding change
 change-nil f a e = refl
 
@@ -254,15 +254,15 @@ module _ (f : Values → Values) (a e : HostAddr) {nx0 ws0 nx ws : List ℕ} {fl
 
 -- ---- lowering
 
-lowered-drop : (k : ℕ) (a e : HostAddr) (r : Region) → changedOne (lower k) a e r .values .refcount ≡ 0 → (t : List Region) → lowered k a e (r ∷ t) ≡ lowered k a e t
+pub lowered-drop : (k : ℕ) (a e : HostAddr) (r : Region) → changedOne (lower k) a e r .values .refcount ≡ 0 → (t : List Region) → lowered k a e (r ∷ t) ≡ lowered k a e t
 unfolding lowered held
 lowered-drop k a e r d t = rw (change-cons (lower k) a e r t, le-ltb 0 (changedOne (lower k) a e r .values .refcount) (omega arith))
 
-lowered-keep : (k : ℕ) (a e : HostAddr) (r : Region) → (changedOne (lower k) a e r .values .refcount ≡ 0 → ⊥) → (t : List Region) → lowered k a e (r ∷ t) ≡ changedOne (lower k) a e r ∷ lowered k a e t
+pub lowered-keep : (k : ℕ) (a e : HostAddr) (r : Region) → (changedOne (lower k) a e r .values .refcount ≡ 0 → ⊥) → (t : List Region) → lowered k a e (r ∷ t) ≡ changedOne (lower k) a e r ∷ lowered k a e t
 unfolding lowered held
 lowered-keep k a e r d t = rw (change-cons (lower k) a e r t, lt-ltb 0 (changedOne (lower k) a e r .values .refcount) (omega arith))
 
-lowered-nil : (k : ℕ) (a e : HostAddr) → lowered k a e [] ≡ []
+pub lowered-nil : (k : ℕ) (a e : HostAddr) → lowered k a e [] ≡ []
 unfolding lowered
 lowered-nil k a e = rw change-nil
 
@@ -301,19 +301,19 @@ gap-none : (a e : HostAddr) (t : List Region) → e .0 ≤ a .0 → gap a e ++ t
 unfolding gap
 gap-none a e t l = rw (le-ltb (a .0) (e .0) l)
 
-fill-nil : (a e : HostAddr) → fill a e [] ≡ gap a e ++ []
+pub fill-nil : (a e : HostAddr) → fill a e [] ≡ gap a e ++ []
 unfolding fill
 fill-nil a e = sym (mathlib.Core.List.append-nil (gap a e))
 
-fill-past : (a e : HostAddr) (r : Region) → r .end .0 ≤ a .0 → (t : List Region) → fill a e (r ∷ t) ≡ r ∷ fill a e t
+pub fill-past : (a e : HostAddr) (r : Region) → r .end .0 ≤ a .0 → (t : List Region) → fill a e (r ∷ t) ≡ r ∷ fill a e t
 unfolding fill
 fill-past a e r l t = rw (le-leb (r .end .0) (a .0) l)
 
-fill-over : (a e : HostAddr) (r : Region) → a .0 < r .end .0 → e .0 ≤ r .start .0 → (t : List Region) → fill a e (r ∷ t) ≡ gap a e ++ (r ∷ t)
+pub fill-over : (a e : HostAddr) (r : Region) → a .0 < r .end .0 → e .0 ≤ r .start .0 → (t : List Region) → fill a e (r ∷ t) ≡ gap a e ++ (r ∷ t)
 unfolding fill
 fill-over a e r l m t = rw (lt-leb (r .end .0) (a .0) l, le-leb (e .0) (r .start .0) m)
 
-fill-in : (a e : HostAddr) (r : Region) → a .0 < r .end .0 → r .start .0 < e .0 → (t : List Region) → fill a e (r ∷ t) ≡ gap a (r .start) ++ (r ∷ fill (r .end) e t)
+pub fill-in : (a e : HostAddr) (r : Region) → a .0 < r .end .0 → r .start .0 < e .0 → (t : List Region) → fill a e (r ∷ t) ≡ gap a (r .start) ++ (r ∷ fill (r .end) e t)
 unfolding fill
 fill-in a e r l m t = rw (lt-leb (r .end .0) (a .0) l, lt-leb (e .0) (r .start .0) m)
 

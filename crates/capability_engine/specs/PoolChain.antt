@@ -2,12 +2,14 @@
 -- of the list that is worked on, so that list is a ring through 1,024.
 use Prim.Native.Nat.{ℕ, zero, suc, _+_, _≤_, _<_}
 use mathlib.Core.Path.{_≡_}
-use mathlib.Core.List.{List, [], _∷_, map}
+use mathlib.Core.List.{List, [], _∷_, _++_, map}
 use lib.ListN.{getD, length}
 use lib.Dec.{ltb, eqb}
 use Rattle.definitions.specs.Tests.{if_then_else_, bit}
+use Rattle.definitions.specs.declared.addr.HostAddr.{HostAddr}
 use Rattle.definitions.specs.declared.region.Region.{Region}
 use Rattle.capability_engine.specs.PoolWords.{regionAt}
+use Rattle.capability_engine.specs.declared.region.Skipped.{Skipped}
 
 -- from h the links go through the slots ss in order, and then to k
 abbrev pub Seg : List ℕ → ℕ → List ℕ → ℕ → Type 0
@@ -51,3 +53,35 @@ pub record Walkable (nx ws : List ℕ) (h : ℕ) : Type 0 where
 -- the regions of the list that begins at h
 abbrev pub storedAt : List ℕ → List ℕ → ℕ → List Region
 storedAt nx ws h = records ws (slots nx h)
+
+-- every region of a list; the first one, if there is one
+module _ (P : Region → Type 0) where
+  abbrev pub All : List Region → Type 0
+  All [] = Unit {0}
+  All (r ∷ rs) = P r × All rs
+
+  abbrev pub First : List Region → Type 0
+  First [] = Unit {0}
+  First (r ∷ rs) = P r
+
+-- a walk from h came to cur: the slots done lie behind, q being the last of them (p if there is none), and P holds of each
+-- of their regions
+pub record Passing (P : Region → Type 0) (nx ws : List ℕ) (h p cur q : ℕ) : Type 0 where
+  pub listed : Listed nx cur (slots nx cur)
+  pub done : List ℕ
+  pub whole : slots nx h ≡ done ++ slots nx cur
+  pub here : q ≡ last p done
+  pub each : All P (records ws done)
+
+-- the walk stopped where Q holds
+pub record Stopped (P Q : Region → Type 0) (nx ws : List ℕ) (h p q : ℕ) : Type 0 where
+  pub cur : ℕ
+  pub passing : Passing P nx ws h p cur q
+  pub stop : First Q (storedAt nx ws cur)
+
+-- the regions that end below an address were passed; those that begin at or below one were
+abbrev pub SkipsBelow : List ℕ → List ℕ → ℕ → HostAddr → Skipped → Type 0
+SkipsBelow nx ws h a s = Passing (λ r. r .end .0 < a .0) nx ws h 1024 (s .next) (s .last)
+
+abbrev pub SkipsThrough : List ℕ → List ℕ → ℕ → ℕ → HostAddr → ℕ → Type 0
+SkipsThrough nx ws h p e q = Stopped (λ r. r .start .0 ≤ e .0) (λ r. e .0 < r .start .0) nx ws h p q

@@ -1,7 +1,7 @@
 -- The list that is worked on, and the free slots, which the arena keeps.
 use Prim.Native.Nat.{ℕ, _+_, _≤_, _<_}
 use mathlib.Core.Path.{_≡_}
-use mathlib.Core.List.{List, _∷_}
+use mathlib.Core.List.{List, _∷_, _++_}
 use lib.ListN.{getD, set, length}
 use Rattle.definitions.specs.declared.region.Region.{Region}
 use Rattle.definitions.specs.declared.addr.HostAddr.{HostAddr}
@@ -11,7 +11,8 @@ use Rattle.gen_arena.specs.declared.GenArena.{GenArena}
 use Rattle.gen_arena.specs.Arena.{ArenaCall}
 use Rattle.gen_arena.specs.Grown.{GrownArena}
 use Rattle.capability_engine.specs.PoolWords.{regionAt, putRegion}
-use Rattle.capability_engine.specs.PoolChain.{Seg, cnt, slots, records}
+use Rattle.capability_engine.specs.PoolChain.{Seg, cnt, last, slots, records, All, Listed}
+use Rattle.capability_engine.specs.declared.region.Outside.{Outside}
 
 -- what the arena keeps its free slots in
 pub record Heap : Type 0 where
@@ -37,6 +38,20 @@ linked nx p x = set (set nx x (getD nx p 0)) p x
 
 unfoldable pub unlinked : List ℕ → ℕ → List ℕ
 unlinked nx p = set nx p (getD nx (getD nx p 0) 0)
+
+-- only what lies behind p, up to z, stays in the ring
+unfoldable pub shortened : List ℕ → ℕ → List ℕ
+shortened nx z = set nx z 1024
+
+unfoldable pub narrowed : List ℕ → ℕ → ℕ → List ℕ
+narrowed nx p z = set (shortened nx z) 1024 (getD (shortened nx z) p 0)
+
+-- the list of the ring goes behind p, h being the head again, and what began at r behind its last slot
+unfoldable pub lengthened : List ℕ → ℕ → ℕ → List ℕ
+lengthened nx p h = set (set nx 1024 h) p (getD nx 1024 0)
+
+unfoldable pub widened : List ℕ → ℕ → ℕ → ℕ → List ℕ
+widened nx p h r = set (lengthened nx p h) (last p (slots (lengthened nx p h) (getD (lengthened nx p h) p 0))) r
 
 -- the first free slot is taken; a slot is given back
 pub record Popped (fl : Heap) (x : ℕ) (fl' : Heap) : Type 0 where
@@ -118,3 +133,23 @@ pub record InsertsRegion (nx ws : List ℕ) (fl : Heap) (p x : ℕ) (r : Region)
 pub record PutsGap (nx ws : List ℕ) (fl : Heap) (q : ℕ) (a e : HostAddr) (nx' ws' : List ℕ) (fl' : Heap) : Type 0 where
   pub some : a .0 < e .0 → (n : ℕ) × InsertsRegion nx ws fl q n (region a e nothing) nx' ws' fl'
   pub none : e .0 ≤ a .0 → (nx' ≡ nx) × (ws' ≡ ws) × (fl' ≡ fl)
+
+-- p is a place in the list: the slots pre lie before it, p being the last of them (1,024 if there is none), and P holds of
+-- each of their regions
+pub record Place (P : Region → Type 0) (nx ws : List ℕ) (p : ℕ) : Type 0 where
+  pub pre : List ℕ
+  pub cur : List ℕ
+  pub whole : mineOf nx ≡ pre ++ cur
+  pub here : p ≡ last 1024 pre
+  pub each : All P (records ws pre)
+
+-- what taking the rest of the list off the ring does, and what putting it back asks
+pub record Narrows (nx : List ℕ) (p z : ℕ) (off : Outside) (nx' : List ℕ) : Type 0 where
+  pub link : nx' ≡ narrowed nx p z
+  pub head : off .head ≡ getD (shortened nx z) 1024 0
+  pub rest : off .rest ≡ getD nx z 0
+
+pub record CanWiden (nx : List ℕ) (p h : ℕ) : Type 0 where
+  pub size : length nx ≡ 1025
+  pub at : p ≤ 1024
+  pub listed : Listed (lengthened nx p h) (getD (lengthened nx p h) p 0) (slots (lengthened nx p h) (getD (lengthened nx p h) p 0))

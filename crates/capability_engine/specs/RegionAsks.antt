@@ -18,7 +18,8 @@ use Rattle.definitions.proofs.Tables.{addOn, removeOn}
 use Rattle.capability_engine.specs.declared.region.AddAsk.{AddAsk}
 use Rattle.capability_engine.specs.declared.region.RemoveAsk.{RemoveAsk}
 use Rattle.capability_engine.specs.declared.region.Changed.{Changed}
-use Rattle.capability_engine.specs.PoolChain.{Walkable, storedAt}
+use Rattle.capability_engine.specs.declared.region.Skipped.{Skipped}
+use Rattle.capability_engine.specs.PoolChain.{Walkable, storedAt, SkipsBelow}
 use Rattle.capability_engine.specs.PoolOwn.{Heap, heap, freeOf, Ready, Pass}
 
 -- a step for each region of a list
@@ -120,6 +121,14 @@ pub record Askable (nx ws : List ℕ) (head room : ℕ) : Type 0 where
   pub listed : Walkable nx ws head
   pub ordered : Ordered 0 (storedAt nx ws head)
   pub few : length (storedAt nx ws head) + room ≤ 1024
+
+-- the same, with the records passed that end below both
+pub record AskableAt (nx ws : List ℕ) (head room : ℕ) (a e : HostAddr) (s : Skipped) : Type 0 where
+  pub askable : Askable nx ws head room
+  pub low : HostAddr
+  pub below : low .0 ≤ a .0
+  pub under : low .0 ≤ e .0
+  pub skipped : SkipsBelow nx ws head low s
 
 -- the greater of n and the region's holders, if it shares an address with the range
 unfoldable pub mostOf : HostAddr → HostAddr → ℕ → Region → ℕ

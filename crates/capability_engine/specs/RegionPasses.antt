@@ -2,13 +2,13 @@
 use Prim.Native.Nat.{ℕ, _≤_, _<_}
 use mathlib.Core.List.{List, [], _∷_}
 use Rattle.definitions.specs.Tests.{if_then_else_, keep}
-use Rattle.definitions.specs.Values.{held, lower}
+use Rattle.definitions.specs.Values.{held, raise, lower}
 use Rattle.definitions.specs.Regions.{region, within, splits, cut}
 use Rattle.definitions.specs.declared.addr.HostAddr.{HostAddr}
 use Rattle.definitions.specs.declared.region.Values.{Values}
 use Rattle.definitions.specs.declared.region.Region.{Region}
-use Rattle.definitions.proofs.Lists.{change, Ordered, AllHeld}
-use Rattle.capability_engine.specs.PoolOwn.{Heap, Room, recordsOf}
+use Rattle.definitions.proofs.Lists.{change, peak, Ordered, AllHeld, Runs}
+use Rattle.capability_engine.specs.PoolOwn.{Heap, Ready, Room, recordsOf, Place}
 
 -- the regions that lie in the range are lowered, and go if nobody holds them any more
 unfoldable pub lowered : ℕ → HostAddr → HostAddr → List Region → List Region
@@ -42,3 +42,18 @@ pub record CanApplyRemove (nx ws : List ℕ) (fl : Heap) (a e : HostAddr) (right
   pub full : AllHeld (recordsOf nx ws)
   pub first : Room nx fl (cut a (recordsOf nx ws))
   pub second : Room nx fl (cut e (lowered rights a e (cut a (recordsOf nx ws))))
+
+-- what an add and a remove ask that leave alone what lies before p
+pub record CanAddBetween (nx ws : List ℕ) (fl : Heap) (a e : HostAddr) (rights p : ℕ) : Type 0 where
+  pub order : a .0 < e .0
+  pub ready : Ready nx ws fl
+  pub runs : Runs 0 (recordsOf nx ws)
+  pub place : Place (λ r. r .end .0 < a .0) nx ws p
+  pub room : Room nx fl (peak a e (recordsOf nx ws))
+  pub small : AllSmall (change (raise rights) a e (peak a e (recordsOf nx ws)))
+
+pub record CanRemoveBetween (nx ws : List ℕ) (fl : Heap) (a e : HostAddr) (rights p : ℕ) : Type 0 where
+  pub ready : Ready nx ws fl
+  pub runs : Runs 0 (recordsOf nx ws)
+  pub place : Place (λ r. r .end .0 < a .0) nx ws p
+  pub applies : CanApplyRemove nx ws fl a e rights

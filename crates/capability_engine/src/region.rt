@@ -14,7 +14,7 @@ use gen_arena::NewHandle;
 ghost use mathlib.Core.Path.{_≡_};
 ghost use Prim.Native.Nat.{ℕ, _+_, _*_, _-_, _<_, _≤_, max};
 ghost use lib.ListN.{length, getD, set};
-ghost use mathlib.Core.Bool.{not, _&&_, _||_};
+ghost use mathlib.Core.Bool.{true, not, _&&_, _||_};
 ghost use Rattle.definitions.specs.Tests.{if_then_else_, _<?_, _=?_, _≤?_, bit};
 ghost use Rattle.definitions.specs.Questions.{everyNamed, ranged};
 ghost use Rattle.definitions.specs.declared.answer.Answer.the-variants.{Accepted, Refused};
@@ -23,10 +23,10 @@ ghost use Rattle.capability_engine.specs.PoolWords.{regionAt, putRegion}
 ghost use Rattle.definitions.specs.Regions.{region, splits, within, meets, joins, joined, cut, refcountOf, permissionOf};
 ghost use Rattle.definitions.specs.Values.{nothing, raise, lower};
 ghost use Rattle.definitions.proofs.Lists.{fill, change, added, removed, peak};
-ghost use Rattle.capability_engine.specs.PoolChain.{Listed, Walkable, slots, records, storedAt};
-ghost use Rattle.capability_engine.specs.PoolOwn.{Heap, heap, mineOf, recordsOf, Ready, Room, Pass, CanInsert, Inserts, InsertsRegion, PutsGap, CanRemove, Removes};
-ghost use Rattle.capability_engine.specs.RegionPasses.{lowered, startOf, changedOne, Small, AllSmall, CanApplyRemove};
-ghost use Rattle.capability_engine.specs.RegionAsks.{everyOf, lowEnough, gapFrom, gapHere, addStep, freesOne, removeStep, Tracked, AddsRegion, RemovesRegion, foldFrom, addBegin, removeBegin, Askable, mostOf};
+ghost use Rattle.capability_engine.specs.PoolChain.{Listed, Walkable, last, slots, records, storedAt, SkipsBelow, SkipsThrough};
+ghost use Rattle.capability_engine.specs.PoolOwn.{Heap, heap, mineOf, recordsOf, Ready, Room, Pass, CanInsert, Inserts, InsertsRegion, PutsGap, CanRemove, Removes, Narrows, widened, CanWiden};
+ghost use Rattle.capability_engine.specs.RegionPasses.{lowered, startOf, changedOne, Small, AllSmall, CanApplyRemove, CanAddBetween, CanRemoveBetween};
+ghost use Rattle.capability_engine.specs.RegionAsks.{everyOf, lowEnough, gapFrom, gapHere, addStep, freesOne, removeStep, Tracked, AddsRegion, RemovesRegion, foldFrom, addBegin, removeBegin, AskableAt, mostOf};
 ghost use Rattle.capability_engine.specs.RegionListing.{Starts, Steps};
 
 // The slot that was put in, and the arena without it.
@@ -511,6 +511,152 @@ pub(crate) fn apply_remove(
     coalesce(next, words, links, gens, last)
 }
 
+fn lesser(a: HostAddr, b: HostAddr) -> HostAddr
+    ensures { λ low. ⌜ (low .0 ≤ a .0) × (low .0 ≤ b .0) ⌝ }
+{
+    if a.0 < b.0 {
+        return a;
+    }
+    b
+}
+
+// How far a walk went: the last slot that it passed, 1,024 if none, and the one that it stands at.
+pub(crate) struct Skipped {
+    pub last: usize,
+    pub next: usize,
+}
+
+// The records, from head on, that end below start are passed. Only their ends are read.
+fn skip_below(next: &[usize], words: &[u64], head: usize, start: HostAddr) -> Skipped
+    requires { ⌜ Walkable (now next) (now words) head ⌝ }
+    ensures { λ s. ⌜ SkipsBelow (now (next .entry)) (now (words .entry)) head start s ⌝ }
+{
+    let mut q = 1024;
+    let mut cur = head;
+    while cur < 1024 {
+        let to = words[8 * cur + 1];
+        if start.0 <= to {
+            return Skipped { last: q, next: cur };
+        }
+        q = cur;
+        cur = next[cur];
+    }
+    Skipped { last: q, next: cur }
+}
+
+// The last slot, from head on, of those whose records begin at or below end; p if the first does not.
+fn skip_through(next: &[usize], words: &[u64], p: usize, head: usize, end: HostAddr) -> usize
+    requires { ⌜ Walkable (now next) (now words) head ⌝ }
+    ensures { λ q. ⌜ SkipsThrough (now (next .entry)) (now (words .entry)) head p end q ⌝ }
+{
+    let mut q = p;
+    let mut cur = head;
+    while cur < 1024 {
+        let from = words[8 * cur];
+        if end.0 < from {
+            return q;
+        }
+        q = cur;
+        cur = next[cur];
+    }
+    q
+}
+
+// The last slot behind p; p if there is none.
+fn last_from(next: &[usize], p: usize) -> usize
+    requires { ⌜ (p ≤ 1024) × Listed (now next) (getD (now next) p 0) (slots (now next) (getD (now next) p 0)) ⌝ }
+    ensures { λ q. ⌜ q ≡ last p (slots (now (next .entry)) (getD (now (next .entry)) p 0)) ⌝ }
+{
+    let mut q = p;
+    let mut cur = next[p];
+    while cur < 1024 {
+        q = cur;
+        cur = next[cur];
+    }
+    q
+}
+
+// What was taken off the ring: the head of the list, and the first slot of what lies behind.
+pub(crate) struct Outside {
+    pub head: usize,
+    pub rest: usize,
+}
+
+// Only what lies behind p, up to z, stays in the ring.
+fn narrow(next: &mut [usize], p: usize, z: usize) -> Outside
+    requires { ⌜ (p ≤ 1024) × (z ≤ 1024) × (length (now next) ≡ 1025) ⌝ }
+    ensures { λ off. ⌜ Narrows (now (next .entry)) p z off (now (next .exit)) ⌝ }
+{
+    let rest = next[z];
+    next[z] = 1024;
+    let head = next[1024];
+    let first = next[p];
+    next[1024] = first;
+    Outside { head, rest }
+}
+
+// What was taken off is put back before and behind what is in the ring.
+fn widen(next: &mut [usize], p: usize, off: Outside)
+    requires { ⌜ CanWiden (now next) p (off .head) ⌝ }
+    ensures { λ _. ⌜ now (next .exit) ≡ widened (now (next .entry)) p (off .head) (off .rest) ⌝ }
+{
+    let first = next[1024];
+    let head = off.head;
+    let rest = off.rest;
+    next[1024] = head;
+    next[p] = first;
+    let y = last_from(next, p);
+    next[y] = rest;
+}
+
+// The same add, of the records behind p up to the end of the range alone: those before p end below it.
+fn add_between(
+    next: &mut [usize],
+    words: &mut [u64],
+    links: &mut [usize],
+    gens: &mut [u64],
+    arena: GenArena,
+    p: usize,
+    start: HostAddr,
+    end: HostAddr,
+    rights: u64,
+) -> GenArena
+    requires { ⌜ CanAddBetween (now next) (now words) (heap (now links) (now gens) arena) start end rights p ⌝ }
+    ensures { λ r. ⌜ Pass (now (next .entry)) (now (words .entry)) (heap (now (links .entry)) (now (gens .entry)) arena) (now (next .exit)) (now (words .exit)) (heap (now (links .exit)) (now (gens .exit)) r)
+        (added start end rights (recordsOf (now (next .entry)) (now (words .entry)))) ⌝ }
+{
+    let first = next[p];
+    let z = skip_through(next, words, p, first, end);
+    let off = narrow(next, p, z);
+    let left = apply_add(next, words, links, gens, arena, start, end, rights);
+    widen(next, p, off);
+    left
+}
+
+// The same remove, of those records alone.
+fn remove_between(
+    next: &mut [usize],
+    words: &mut [u64],
+    links: &mut [usize],
+    gens: &mut [u64],
+    arena: GenArena,
+    p: usize,
+    start: HostAddr,
+    end: HostAddr,
+    rights: u64,
+) -> GenArena
+    requires { ⌜ CanRemoveBetween (now next) (now words) (heap (now links) (now gens) arena) start end rights p ⌝ }
+    ensures { λ r. ⌜ Pass (now (next .entry)) (now (words .entry)) (heap (now (links .entry)) (now (gens .entry)) arena) (now (next .exit)) (now (words .exit)) (heap (now (links .exit)) (now (gens .exit)) r)
+        (removed start end rights (recordsOf (now (next .entry)) (now (words .entry)))) ⌝ }
+{
+    let first = next[p];
+    let z = skip_through(next, words, p, first, end);
+    let off = narrow(next, p, z);
+    let left = apply_remove(next, words, links, gens, arena, start, end, rights);
+    widen(next, p, off);
+    left
+}
+
 // A compartment's list: its first slot, 1,024 for none.
 pub struct RegionTracker {
     pub head: usize,
@@ -734,17 +880,39 @@ fn remove_step(ask: RemoveAsk, r: Region, start: HostAddr, end: HostAddr, rights
     }
 }
 
-// The questions of an add, region by region.
+// Does the region, and so each behind it, begin at or above both?
+fn lies_above(r: Region, start: HostAddr, end: HostAddr) -> bool
+    ensures { λ b. ⌜ (b ≡ true → (start .0 ≤ r .start .0) × (end .0 ≤ r .start .0)) ⌝ }
+{
+    if r.start.0 < start.0 {
+        return false;
+    }
+    end.0 <= r.start.0
+}
+
+// The last slot passed, whose record tells whether one begins at or below start; the head if none was passed.
+fn last_or(skipped: Skipped, head: usize) -> usize
+    ensures { λ f. ⌜ f ≡ (if skipped .last <? 1024 then skipped .last else head) ⌝ }
+{
+    if skipped.last < 1024 {
+        return skipped.last;
+    }
+    head
+}
+
+// The questions of an add, region by region. What ends below start answers none of them, and after a region that begins at or
+// above end none is left.
 fn walk_add(
     next: &[usize],
     words: &[u64],
     head: usize,
+    skipped: Skipped,
     room: usize,
     start: HostAddr,
     end: HostAddr,
     rights: u64,
 ) -> AddAsk
-    requires { ⌜ Walkable (now next) (now words) head × (room ≤ 1024) ⌝ }
+    requires { ⌜ AskableAt (now next) (now words) head room start end skipped ⌝ }
     ensures { λ b. ⌜ b ≡ foldFrom (addStep start end rights) (addBegin room start) (storedAt (now (next .entry)) (now (words .entry)) head) ⌝ }
 {
     let mut ask = AddAsk {
@@ -756,26 +924,30 @@ fn walk_add(
         gap: false,
         fresh: false,
     };
-    let mut cur = head;
+    let mut cur = skipped.next;
     while cur < 1024 {
         let r = load(words, cur);
         ask = add_step(ask, r, start, end, rights);
+        if and(ask.from.0 == end.0, lies_above(r, start, end)) {
+            return ask;
+        }
         cur = next[cur];
     }
     ask
 }
 
-// The questions of a remove, region by region.
+// The questions of a remove, region by region, from the last that ends below start on.
 fn walk_remove(
     next: &[usize],
     words: &[u64],
     head: usize,
+    skipped: Skipped,
     room: usize,
     start: HostAddr,
     end: HostAddr,
     rights: u64,
 ) -> RemoveAsk
-    requires { ⌜ Walkable (now next) (now words) head × (room ≤ 1024) ⌝ }
+    requires { ⌜ AskableAt (now next) (now words) head room start end skipped ⌝ }
     ensures { λ b. ⌜ b ≡ foldFrom (removeStep start end rights) (removeBegin room) (storedAt (now (next .entry)) (now (words .entry)) head) ⌝ }
 {
     let mut ask = RemoveAsk {
@@ -787,10 +959,13 @@ fn walk_remove(
         lowerable: true,
         gone: false,
     };
-    let mut cur = head;
+    let mut cur = last_or(skipped, head);
     while cur < 1024 {
         let r = load(words, cur);
         ask = remove_step(ask, r, start, end, rights);
+        if lies_above(r, start, end) {
+            return ask;
+        }
         cur = next[cur];
     }
     ask
@@ -835,15 +1010,16 @@ pub(crate) fn ask_add(
     next: &[usize],
     words: &[u64],
     head: usize,
+    skipped: Skipped,
     room: usize,
     start: HostAddr,
     end: HostAddr,
     rights: u64,
 ) -> Answer
-    requires { ⌜ Walkable (now next) (now words) head × (room ≤ 1024) ⌝ }
+    requires { ⌜ AskableAt (now next) (now words) head room start end skipped ⌝ }
     ensures { λ r. ⌜ r ≡ addOn (1024 - room) (storedAt (now (next .entry)) (now (words .entry)) head) start end rights ⌝ }
 {
-    let ask = walk_add(next, words, head, room, start, end, rights);
+    let ask = walk_add(next, words, head, skipped, room, start, end, rights);
     let last = ask.from.0 < end.0;
     let left = less(less(less(ask.left, last), ask.cuts_start), ask.cuts_end);
     let changed = or(or(ask.gap, last), ask.fresh);
@@ -858,15 +1034,16 @@ pub(crate) fn ask_remove(
     next: &[usize],
     words: &[u64],
     head: usize,
+    skipped: Skipped,
     room: usize,
     start: HostAddr,
     end: HostAddr,
     rights: u64,
 ) -> Answer
-    requires { ⌜ Askable (now next) (now words) head room ⌝ }
+    requires { ⌜ AskableAt (now next) (now words) head room start end skipped ⌝ }
     ensures { λ r. ⌜ r ≡ removeOn (1024 - room) (storedAt (now (next .entry)) (now (words .entry)) head) start end rights ⌝ }
 {
-    let ask = walk_remove(next, words, head, room, start, end, rights);
+    let ask = walk_remove(next, words, head, skipped, room, start, end, rights);
     let first = or(!ask.cuts_start, 0 < room);
     let second = or(!ask.cuts_end, ask.lack <= less(1024, ask.cuts_start));
     let done = Answer::Accepted(number(ask.gone));
@@ -950,7 +1127,9 @@ impl RegionTracker {
     {
         let head = self.head;
         let room = arena.capacity(links);
-        let answer = ask_add(next, words, head, room, start, end, rights);
+        let low = lesser(start, end);
+        let skipped = skip_below(next, words, head, low);
+        let answer = ask_add(next, words, head, skipped, room, start, end, rights);
         if start.0 == end.0 {
             return Changed {
                 tracker: self,
@@ -960,8 +1139,9 @@ impl RegionTracker {
         }
         match answer {
             Answer::Accepted(_) => {
+                let p = skipped.last;
                 next[1024] = head;
-                let left = apply_add(next, words, links, gens, arena, start, end, rights);
+                let left = add_between(next, words, links, gens, arena, p, start, end, rights);
                 let first = next[1024];
                 Changed {
                     tracker: RegionTracker { head: first },
@@ -993,7 +1173,9 @@ impl RegionTracker {
     {
         let head = self.head;
         let room = arena.capacity(links);
-        let answer = ask_remove(next, words, head, room, start, end, rights);
+        let low = lesser(start, end);
+        let skipped = skip_below(next, words, head, low);
+        let answer = ask_remove(next, words, head, skipped, room, start, end, rights);
         if start.0 == end.0 {
             return Changed {
                 tracker: self,
@@ -1003,8 +1185,9 @@ impl RegionTracker {
         }
         match answer {
             Answer::Accepted(_) => {
+                let p = skipped.last;
                 next[1024] = head;
-                let left = apply_remove(next, words, links, gens, arena, start, end, rights);
+                let left = remove_between(next, words, links, gens, arena, p, start, end, rights);
                 let first = next[1024];
                 Changed {
                     tracker: RegionTracker { head: first },
