@@ -19,12 +19,12 @@ use Rattle.definitions.proofs.call.Call.{the-type}
 use Rattle.capability_engine.specs.declared.region.RegionTracker.{RegionTracker}
 use Rattle.capability_engine.specs.declared.region.Changed.{Changed as RegionChanged}
 use Rattle.capability_engine.specs.declared.remapper.Remapper.{Remapper}
-use Rattle.capability_engine.specs.declared.remapper.Changed.{Changed as SegmentChanged}
+use Rattle.capability_engine.specs.declared.remapper.Change.{Change}
 use Rattle.capability_engine.specs.PoolChain.{storedAt}
 use Rattle.capability_engine.specs.PoolOwn.{heap}
 use Rattle.capability_engine.specs.RegionAsks.{AddsRegion, RemovesRegion}
 use Rattle.capability_engine.specs.RemapAnswers.{Maps, Unmaps, UnmapsGpa}
-use Rattle.capability_engine.specs.CompartmentSteps.{onRegions, onSegments, noTracker, OnRegions, OnSegments}
+use Rattle.capability_engine.specs.CompartmentSteps.{onRegions, onSegments, noTracker, OnRegions, AsksSegments}
 use Rattle.capability_engine.proofs.CompartmentLaws.{add-answers, remove-answers, count-answers}
 
 -- ---- on regions
@@ -73,16 +73,16 @@ not-regions (Mappings k) h o = true≢false (sym o)
 
 -- ---- on segments
 
-module _ (remapper : Remapper) (r : SegmentChanged) (call : Call) (k : ℕ) where
-  pub on-map : (h : HostAddr) (g : GuestAddr) (n t : ℕ) → call ≡ Map k h g n t → Maps remapper h g n t r → OnSegments call remapper r
+module _ (remapper : Remapper) (r : Change) (call : Call) (k : ℕ) where
+  pub on-map : (h : HostAddr) (g : GuestAddr) (n t : ℕ) → call ≡ Map k h g n t → Maps remapper h g n t r → AsksSegments call remapper r
   unfolding answerIn reckon withSegments
   on-map h g n t ec does = rw ec (λ m c held o. does c held)
 
-  pub on-unmap : (h : HostAddr) (n : ℕ) → call ≡ Unmap k h n → Unmaps remapper h n r → OnSegments call remapper r
+  pub on-unmap : (h : HostAddr) (n : ℕ) → call ≡ Unmap k h n → Unmaps remapper h n r → AsksSegments call remapper r
   unfolding answerIn reckon withSegments
   on-unmap h n ec does = rw ec (λ m c held o. does c held)
 
-  pub on-unmap-gpa : (g : GuestAddr) (n : ℕ) → call ≡ UnmapGpa k g n → UnmapsGpa remapper g n r → OnSegments call remapper r
+  pub on-unmap-gpa : (g : GuestAddr) (n : ℕ) → call ≡ UnmapGpa k g n → UnmapsGpa remapper g n r → AsksSegments call remapper r
   unfolding answerIn reckon withSegments
   on-unmap-gpa g n ec does = rw ec (λ m c held o. does c held)
 

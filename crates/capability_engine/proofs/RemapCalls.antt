@@ -1,11 +1,13 @@
 -- What each call answers, by the tests that the code makes.
 use Prim.Native.Nat.{ℕ, _+_, _-_, _*_, _/_, _^_, _<_, _≤_}
-use mathlib.Core.Path.{_≡_, refl, sym, ap, _∙_}
+use mathlib.Core.Path.{_≡_, refl, sym, ap, _∙_, subst}
 use mathlib.Core.List.{List, [], _∷_}
 use mathlib.Core.Bool.{Bool, true, false, not, _&&_, _||_, true≢false}
 use native.Mathlib.Omega.{arith}
 use native.Mathlib.Nat.{le-div-iff-mul-le, div-lt-iff-lt-mul}
 use lib.ListN.{length}
+use types.Run.{OneOf, miss}
+use denote.Enum.Declared.{tagOf}
 use borrow.Author.Tests.{lt-ltb, le-ltb, le-leb, lt-leb, leb-true, leb-false, ltb-true}
 use Rattle.definitions.specs.Tests.{_<?_, _≤?_, if_then_else_, bit, fits, hostUp, guestUp, all, any}
 use Rattle.definitions.specs.Segments.{segment, hostEnd, place, inOrder, hitsAny, overlaps, isIdentity, mapped, front, rest, hostInside, hostWhole, hostTail, hostCut, unmapped}
@@ -23,13 +25,17 @@ use Rattle.definitions.specs.declared.answer.Answer.{Answer}
 use Rattle.definitions.specs.declared.answer.Answer.the-variants.{Accepted, Refused}
 use Rattle.capability_engine.specs.declared.remapper.Remapper.{Remapper}
 use Rattle.capability_engine.specs.declared.remapper.Asked.{Asked}
+use Rattle.capability_engine.specs.declared.remapper.Change.{Change}
+use Rattle.capability_engine.specs.declared.remapper.Change.the-variants.{Keep, Put, Cut, Split}
+use Rattle.capability_engine.specs.declared.remapper.Span.{Span}
 use Rattle.capability_engine.specs.declared.remapper.Span.the-variants.{Host}
 use Rattle.capability_engine.specs.declared.remapper.Left.the-variants.{Gone, Kept, Two}
 use Rattle.capability_engine.specs.RemapHeld.{Holds}
 use Rattle.capability_engine.specs.RemapAsking.{leftOf, okFor, askHost, askStep, askAll, nothingAsked, walked, isTwo, Trimmable}
-use Rattle.capability_engine.specs.RemapAnswers.{Does, canMap, canUnmap}
+use Rattle.capability_engine.specs.RemapAnswers.{Does, Puts, Cuts, Splits, Decides, done, settled, canMap, canUnmap}
+use Rattle.capability_engine.proofs.remapper.Change.{the-type}
 use Rattle.capability_engine.proofs.RemapLaws.{length-segs}
-use Rattle.capability_engine.proofs.RemapParts.{both}
+use Rattle.capability_engine.proofs.RemapParts.{both, not-so}
 
 -- ---- questions in order
 
@@ -215,12 +221,17 @@ module _ (self : Remapper) (c : Compartment) (hold : Holds self (c .segments)) (
             let o : (length (c .segments) <? 64) ≡ false = le-ltb (length (c .segments)) 64 (omega (arith, used self (c .segments) hold)) in
             refuses self _ _ _ NoSlot refl (goes ∙ simp (apart, i, o))
 
-        pub map-placed : self .list .count < 64 → (out : Remapper) → Holds out (place (segment h g n t) (c .segments))
-            → Does self (onMap c h g n t) (mapped h g n t (c .segments)) (record { answer = Accepted 0; remapper = out })
+        pub map-puts : self .list .count < 64 → (s : Segment) → s ≡ segment h g n t → Puts self (onMap c h g n t) (mapped h g n t (c .segments)) s
         unfolding ask mapped
-        map-placed l out m =
+        map-puts l s es =
             let o : (length (c .segments) <? 64) ≡ true = lt-ltb (length (c .segments)) 64 (omega (arith, used self (c .segments) hold)) in
-            accepts self _ _ out (goes ∙ simp (apart, i, o)) (simp i m)
+            rw es (record {
+              good = map-good h g n t x e v q;
+              before = c .segments;
+              held = hold;
+              room = omega (arith, used self (c .segments) hold);
+              does = λ out m. accepts self _ _ out (goes ∙ simp (apart, i, o)) (simp i m);
+            })
 
 -- ---- unmap_range
 
@@ -361,19 +372,73 @@ module _ (self : Remapper) (c : Compartment) (hold : Holds self (c .segments)) (
                 (where-so (any (hostInside h (hostUp h n)) (c .segments)) (length (c .segments) <? 64) (p .0) (sym (two-host h (hostUp h n) (c .segments)) ∙ t));
           }
 
-      module _ (out : Remapper) (m : Holds out (walked (Host h (hostUp h n)) (c .segments))) where
-        pub unmap-order : false ≡ inOrder (walked (Host h (hostUp h n)) (c .segments))
-            → Does self (onUnmap c h n) (unmapped h n (c .segments)) (record { answer = Refused OutOfOrder; remapper = self })
-        unfolding ask unmapped
-        unmap-order d = refuses self _ _ _ OutOfOrder refl (then-unmap ∙ rw (← walked-host h (hostUp h n) (c .segments), ← d))
+      -- question 13 does not refuse
+      pub unmap-clean : k .bad ≡ false
+      unmap-clean =
+          ap (λ v. v .bad) w ∙ host-bads h (hostUp h n) nothingAsked (c .segments)
+          ∙ not-so (any (frontCut h (hostUp h n)) (c .segments)) (passed (unmapAsks (c .segments) h (hostUp h n)) (Accepted 0) yes-unmap .0 .1 .0)
 
-        pub unmap-done : true ≡ inOrder (walked (Host h (hostUp h n)) (c .segments))
-            → Does self (onUnmap c h n) (unmapped h n (c .segments)) (record { answer = Accepted 0; remapper = out })
-        unfolding ask unmapped
-        unmap-done d =
-            accepts self _ _ out (then-unmap ∙ rw (← walked-host h (hostUp h n) (c .segments), ← d))
-            (rw (← walked-host h (hostUp h n) (c .segments)) m)
+      pub unmap-order : false ≡ inOrder (walked (Host h (hostUp h n)) (c .segments))
+          → Does self (onUnmap c h n) (unmapped h n (c .segments)) (record { answer = Refused OutOfOrder; remapper = self })
+      unfolding ask unmapped
+      unmap-order d = refuses self _ _ _ OutOfOrder refl (then-unmap ∙ rw (← walked-host h (hostUp h n) (c .segments), ← d))
+
+      pub unmap-cuts : true ≡ inOrder (walked (Host h (hostUp h n)) (c .segments))
+          → Cuts self (onUnmap c h n) (unmapped h n (c .segments)) (Host h (hostUp h n))
+      unfolding ask unmapped hostUp
+      unmap-cuts d =
+          record {
+            range = omega arith;
+            before = c .segments;
+            held = hold;
+            ok = unmap-trimmable;
+            does = λ out m.
+                accepts self _ _ out (then-unmap ∙ rw (← walked-host h (hostUp h n) (c .segments), ← d))
+                (rw (← walked-host h (hostUp h n) (c .segments)) m);
+          }
 
 -- a compartment that has this list
 abbrev pub holding : List Segment → Compartment
 holding ss = record { values = λ x. nothing; segments = ss }
+
+-- ---- a change that a call came to
+
+module _ (self : Remapper) (a : Answer) (ss : List Segment) (r : Change) (d : Decides self a ss r) where
+  pub as-put : (s : Segment) → r ≡ Put s → Puts self a ss s
+  as-put s e = subst (Decides self a ss) e d
+
+  pub as-cut : (p : Span) → r ≡ Cut p → Cuts self a ss p
+  as-cut p e = subst (Decides self a ss) e d
+
+  pub as-split : (p : Span) (h : Segment) → r ≡ Split p h → Splits self a ss p h
+  as-split p h e = subst (Decides self a ss) e d
+
+  pub did-put : (s : Segment) → r ≡ Put s → (out : Remapper) → ((ts : List Segment) → Holds self ts → length ts < 64 → Holds out (place s ts))
+      → Does self a ss (settled r out)
+  did-put s e out f =
+      let w = as-put s e in
+      subst (λ (q : Change). Does self a ss (settled q out)) (sym e) (w .does out (f (w .before) (w .held) (w .room)))
+
+  pub did-cut : (p : Span) → r ≡ Cut p → (out : Remapper) → ((ts : List Segment) → Holds self ts → Trimmable p ts → Holds out (walked p ts))
+      → Does self a ss (settled r out)
+  did-cut p e out f =
+      let w = as-cut p e in
+      subst (λ (q : Change). Does self a ss (settled q out)) (sym e) (w .does out (f (w .before) (w .held) (w .ok)))
+
+  pub did-split : (p : Span) (h : Segment) → r ≡ Split p h → (cut out : Remapper)
+      → ((ts : List Segment) → Holds self ts → Trimmable p ts → Holds cut (walked p ts))
+      → ((ts : List Segment) → Holds cut ts → length ts < 64 → Holds out (place h ts)) → Does self a ss (settled r out)
+  did-split p h e cut out f g =
+      let w = as-split p h e in
+      subst (λ (q : Change). Does self a ss (settled q out)) (sym e)
+      (w .does out (g (walked p (w .before)) (f (w .before) (w .held) (w .ok)) (w .room)))
+
+  pub did-keep : (x : Answer) → r ≡ Keep x → Does self a ss (settled r self)
+  did-keep x e = subst (λ (q : Change). Does self a ss (settled q self)) (sym e) (subst (Decides self a ss) e d)
+
+-- every change but Keep is accepted with 0
+pub settled-done : (r : Change) → OneOf (1 ∷ 2 ∷ 3 ∷ []) (tagOf the-type r) → (out : Remapper) → settled r out ≡ done out
+settled-done (Put s) h out = refl
+settled-done (Cut p) h out = refl
+settled-done (Split p s) h out = refl
+settled-done (Keep x) h out = absurd (miss (1 ∷ 2 ∷ 3 ∷ []) 0 tt h)

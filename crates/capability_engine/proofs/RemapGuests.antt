@@ -19,14 +19,14 @@ use Rattle.definitions.specs.declared.answer.Refusal.the-variants.{Overflow, No
 use Rattle.definitions.specs.declared.answer.Answer.{Answer}
 use Rattle.definitions.specs.declared.answer.Answer.the-variants.{Accepted, Refused}
 use Rattle.capability_engine.specs.declared.remapper.Remapper.{Remapper}
-use Rattle.capability_engine.specs.declared.remapper.Changed.{Changed}
+use Rattle.capability_engine.specs.declared.remapper.Change.{Change}
 use Rattle.capability_engine.specs.declared.remapper.Asked.{Asked}
 use Rattle.capability_engine.specs.declared.remapper.Span.the-variants.{Guest}
 use Rattle.capability_engine.specs.declared.remapper.Left.the-variants.{Gone, Kept}
 use Rattle.capability_engine.specs.RemapHeld.{Holds}
 use Rattle.capability_engine.specs.RemapAsking.{leftOf, okGuest, okFor, repeats, halfOf, askGuest, askStep, askAll, nothingAsked, onward, walked, isTwo, Trimmable}
-use Rattle.capability_engine.specs.RemapAnswers.{Does, onSpan, canStart, canUnmapGpa}
-use Rattle.capability_engine.proofs.RemapParts.{both, half-small}
+use Rattle.capability_engine.specs.RemapAnswers.{Does, Cuts, Splits, Decides, onSpan, canStart, canUnmapGpa}
+use Rattle.capability_engine.proofs.RemapParts.{both, or-false, not-so, not-repeated, half-small}
 use Rattle.capability_engine.proofs.RemapWalks.{some-start, some-end, some-open}
 use Rattle.capability_engine.proofs.RemapCalls.{ask-on, ask-no, refuses, accepts, fits-yes, fits-no, used, or-none, or-assoc, not-both, not-one, where-so}
 
@@ -55,10 +55,6 @@ module _ (k : Asked) (n : ℕ) where
       pub span-fits : t ≡ false → Accepted 0 ≡ canUnmapGpa k n
       unfolding canUnmapGpa ask
       span-fits z = rw (b, alone (k .split) (k .more) (sym q ∙ e), not-one (k .split) n (sym r ∙ z))
-
-or-false : (a b : Bool) → (a || b) ≡ false → (a ≡ false) × (b ≡ false)
-or-false true b e = absurd (true≢false e)
-or-false false b e = (refl, e)
 
 -- ---- what the walk says of the list
 
@@ -113,17 +109,11 @@ module _ (a e : GuestAddr) where
       go false d g f r h ih = simp d ih
 
   pub span-ok : (ss : List Segment) → any (repeats a e) ss ≡ false → all (okFor (Guest a e)) ss ≡ true
-  unfolding repeats okFor okGuest
+  unfolding okFor
   span-ok [] h = refl
   span-ok (s ∷ ss) h =
       let o = or-false (repeats a e s) (any (repeats a e) ss) h in
-      rw (go (touched a e s) (spanWhole a e s) (s .repeat =? 1) (o .0)) (span-ok ss (o .1))
-    where
-      go : (t g r : Bool) → (t && (not g && not r)) ≡ false → (not t || (g || r)) ≡ true
-      go true true r q = refl
-      go true false true q = refl
-      go true false false q = absurd (true≢false q)
-      go false g r q = refl
+      rw (not-repeated a e s (o .0)) (span-ok ss (o .1))
 
   two-span : (ss : List Segment) → any (λ s. isTwo (leftOf (Guest a e) s)) ss ≡ false
   unfolding leftOf
@@ -357,11 +347,11 @@ module _ (self : Remapper) (ss : List Segment) (hold : Holds self ss) (a e : Gue
     then-span = goes ∙ ask-on (spanAsks ss a e) (spanThen ss a e) yes-span
 
     clean : any (repeats a e) ss ≡ false
-    clean = go (any (repeats a e) ss) (sym (span-fifteen a e ss) ∙ passed (spanAsks ss a e) (Accepted 0) yes-span .0 .0)
-      where
-        go : (b : Bool) → not b ≡ true → b ≡ false
-        go true z = absurd (true≢false (sym z))
-        go false z = refl
+    clean = not-so (any (repeats a e) ss) (sym (span-fifteen a e ss) ∙ passed (spanAsks ss a e) (Accepted 0) yes-span .0 .0)
+
+    -- question 15 does not refuse
+    pub span-clean : k .bad ≡ false
+    span-clean = bads ∙ clean
 
     pub cut-trimmable : Trimmable (Guest a e) ss
     cut-trimmable = span-trimmable a e ss clean
@@ -392,22 +382,35 @@ module _ (self : Remapper) (ss : List Segment) (hold : Holds self ss) (a e : Gue
       unfolding spanCut placeAll
       placed = rw (halves .0) (rw (← walked-span a e ss, ap (λ v. v .half) w))
 
-      pub span-two : true ≡ inOrder (walked (Guest a e) ss) → (out : Remapper) → Holds out (place (k .half) (walked (Guest a e) ss))
-          → Does self (onSpan ss a e) (spanCut a e ss) (record { answer = Accepted 0; remapper = out })
+      pub span-splits-in : true ≡ inOrder (walked (Guest a e) ss) → (h : Segment) → h ≡ k .half → Splits self (onSpan ss a e) (spanCut a e ss) (Guest a e) h
       unfolding ask
-      span-two o out m =
+      span-splits-in o h eh =
           let d : inOrder (spanCut a e ss) ≡ true = ap inOrder placed ∙ place-same (k .half) (walked (Guest a e) ss) ∙ sym o in
-          accepts self _ _ out (then-span ∙ rw d) (rw placed m)
+          rw eh (record {
+            range = l;
+            before = ss;
+            held = hold;
+            ok = cut-trimmable;
+            good = half-good;
+            room = cut-room;
+            does = λ out m. accepts self _ _ out (then-span ∙ rw d) (rw placed m);
+          })
 
     order : (b : Bool) → k .split ≡ b → inOrder (spanCut a e ss) ≡ inOrder (walked (Guest a e) ss)
     order true c = ap inOrder (placed c) ∙ place-same (k .half) (walked (Guest a e) ss)
     order false c = ap inOrder (whole c)
 
-    pub span-done : k .split ≡ false → true ≡ inOrder (walked (Guest a e) ss) → (out : Remapper) → Holds out (walked (Guest a e) ss)
-        → Does self (onSpan ss a e) (spanCut a e ss) (record { answer = Accepted 0; remapper = out })
+    pub span-cuts : k .split ≡ false → true ≡ inOrder (walked (Guest a e) ss) → Cuts self (onSpan ss a e) (spanCut a e ss) (Guest a e)
     unfolding ask
-    span-done c o out m =
-        let d : inOrder (spanCut a e ss) ≡ true = order false c ∙ sym o in accepts self _ _ out (then-span ∙ rw d) (rw (whole c) m)
+    span-cuts c o =
+        let d : inOrder (spanCut a e ss) ≡ true = order false c ∙ sym o in
+        record {
+          range = l;
+          before = ss;
+          held = hold;
+          ok = cut-trimmable;
+          does = λ out m. accepts self _ _ out (then-span ∙ rw d) (rw (whole c) m);
+        }
 
     pub span-order : false ≡ inOrder (walked (Guest a e) ss)
         → Does self (onSpan ss a e) (spanCut a e ss) (record { answer = Refused OutOfOrder; remapper = self })
@@ -515,8 +518,8 @@ module _ (self : Remapper) (c : Compartment) (hold : Holds self (c .segments)) (
   gpa-fits z = going z .fit
 
   -- or the questions from 15 on are the rest
-  pub gpa-then : v ≡ 1 → (r : Changed) → Does self (onSpan (c .segments) g (guestUp g n)) (spanCut g (guestUp g n) (c .segments)) r
-      → Does self (onUnmapGpa c g n) (unmappedGpa g n (c .segments)) r
+  pub gpa-then : v ≡ 1 → (r : Change) → Decides self (onSpan (c .segments) g (guestUp g n)) (spanCut g (guestUp g n) (c .segments)) r
+      → Decides self (onUnmapGpa c g n) (unmappedGpa g n (c .segments)) r
   gpa-then z r d =
       let t = going z .asks in
       let u : unmappedGpa g n (c .segments) ≡ spanCut g (guestUp g n) (c .segments) = left g n (c .segments) (or-false (length (c .segments) =? 0) (n =? 0) t .1) in

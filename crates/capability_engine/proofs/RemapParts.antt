@@ -9,6 +9,7 @@ use mathlib.Core.Logic.{⊎-elim, _⊎_, inl, inr}
 use borrow.Author.Tests.{lt-ltb, le-ltb, le-leb, lt-leb, leb-true, leb-false, ltb-true, eqb-true}
 use Rattle.definitions.specs.Tests.{_<?_, _≤?_, _=?_, if_then_else_, hostUp, guestUp}
 use Rattle.definitions.specs.Segments.{segment, hostEnd, spanEnd, front, rest, touched, spanWhole, spanInside}
+use Rattle.definitions.specs.Questions.{frontCut}
 use Rattle.definitions.proofs.SegmentLaws.{Good, front-good, rest-good}
 use Rattle.definitions.specs.declared.addr.HostAddr.{HostAddr}
 use Rattle.definitions.specs.declared.addr.GuestAddr.{GuestAddr}
@@ -17,11 +18,62 @@ use Rattle.capability_engine.specs.declared.remapper.Span.{Span}
 use Rattle.capability_engine.specs.declared.remapper.Span.the-variants.{Host, Guest}
 use Rattle.capability_engine.specs.declared.remapper.Left.{Left}
 use Rattle.capability_engine.specs.declared.remapper.Left.the-variants.{Gone, Kept, Two}
-use Rattle.capability_engine.specs.RemapAsking.{inRange, leftHost, leftGuest, leftOf, okGuest, okFor, repeats}
+use Rattle.capability_engine.specs.declared.remapper.Asked.{Asked}
+use Rattle.capability_engine.specs.declared.remapper.Order.{Order}
+use Rattle.capability_engine.specs.RemapAsking.{inRange, leftHost, leftGuest, leftOf, okGuest, okFor, repeats, askHost, askGuest, askStep, orderAt, orderLeft, orderStep}
 
 pub both : (s t : Bool) → (s && t) ≡ true → (s ≡ true) × (t ≡ true)
 both true t e = (refl, e)
 both false t e = absurd (true≢false (sym e))
+
+pub or-false : (a b : Bool) → (a || b) ≡ false → (a ≡ false) × (b ≡ false)
+or-false true b e = absurd (true≢false e)
+or-false false b e = (refl, e)
+
+pub not-so : (b : Bool) → not b ≡ true → b ≡ false
+not-so true e = absurd (true≢false (sym e))
+not-so false e = refl
+
+-- ---- what questions 13 and 15 let through
+
+pub not-repeated : (a e : GuestAddr) (s : Segment) → repeats a e s ≡ false → okGuest a e s ≡ true
+unfolding repeats okGuest
+not-repeated a e s h = go (touched a e s) (spanWhole a e s) (s .repeat =? 1) h
+  where
+    go : (t g r : Bool) → (t && (not g && not r)) ≡ false → (not t || (g || r)) ≡ true
+    go true true r q = refl
+    go true false true q = refl
+    go true false false q = absurd (true≢false q)
+    go false g r q = refl
+
+-- with no no so far there was none before, and the segment can be cut
+pub bad-step : (p : Span) (k : Asked) (s : Segment) → askStep p k s .bad ≡ false → (k .bad ≡ false) × (okFor p s ≡ true)
+unfolding askStep askHost askGuest okFor
+bad-step (Host a e) k s h = (or-false (k .bad) (frontCut a e s) h .0, refl)
+bad-step (Guest a e) k s h = let o = or-false (k .bad) (repeats a e s) h in (o .0, not-repeated a e s (o .1))
+
+-- ---- the order of what is left, by the tests that the code makes
+
+module _ (p : Span) (bad : Bool) (o : Order) (s : Segment) where
+  pub order-bad : bad ≡ true → o ≡ orderStep p bad o s
+  unfolding orderStep
+  order-bad b = rw b
+
+  module _ (b : bad ≡ false) where
+    pub order-past : o .two ≡ true → orderAt o (s .hpa .0) ≡ orderStep p bad o s
+    unfolding orderStep
+    order-past t = rw (b, t)
+
+    module _ (t : o .two ≡ false) where
+      pub order-left : (l : Left) → leftOf p s ≡ l → orderLeft l o ≡ orderStep p bad o s
+      unfolding orderStep
+      order-left l e = rw (b, t, e)
+
+      pub order-two : (u v : Segment) (x y : Order) → x ≡ orderAt o (u .hpa .0) → y ≡ orderAt x (v .hpa .0) → leftOf p s ≡ Two u v
+          → record { last = y .last; sorted = y .sorted; two = true } ≡ orderStep p bad o s
+      order-two u v x y ex ey e =
+          ap (λ (q : Order). record { last = q .last; sorted = q .sorted; two = true }) (ey ∙ ap (λ (q : Order). orderAt q (v .hpa .0)) ex)
+          ∙ order-left (Two u v) e
 
 -- ---- a host range
 

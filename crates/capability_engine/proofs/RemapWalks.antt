@@ -2,7 +2,7 @@
 use Prim.Native.Nat.{ℕ, suc, _+_, _<_, _≤_}
 use mathlib.Core.Path.{_≡_, refl, sym, ap, _∙_, subst}
 use mathlib.Core.List.{List, [], _∷_, _++_, append-assoc}
-use mathlib.Core.Bool.{Bool, true, false, _&&_, _||_}
+use mathlib.Core.Bool.{Bool, true, false, _&&_, _||_, cond}
 use native.Mathlib.Omega.{arith}
 use lib.ListN.{length, getD, length-append}
 use borrow.Author.Tests.{lt-ltb, le-ltb, le-leb, lt-leb, leb-true}
@@ -14,11 +14,13 @@ use Rattle.definitions.specs.declared.remapper.Segment.{Segment}
 use Rattle.capability_engine.specs.declared.remapper.Remapper.{Remapper}
 use Rattle.capability_engine.specs.declared.remapper.Span.{Span}
 use Rattle.capability_engine.specs.declared.remapper.Asked.{Asked}
+use Rattle.capability_engine.specs.declared.remapper.Order.{Order}
+use Rattle.capability_engine.specs.declared.remapper.Left.{Left}
 use Rattle.capability_engine.specs.declared.remapper.Left.the-variants.{Gone, Kept, Two}
 use Rattle.capability_engine.specs.RemapHeld.{noSegment, Holds, Zip, ahead}
-use Rattle.capability_engine.specs.RemapAsking.{leftOf, okFor, askStep, askAll, nothingAsked, onward, walked, isTwo, Trimmable}
+use Rattle.capability_engine.specs.RemapAsking.{leftOf, okFor, askStep, askAll, nothingAsked, onward, walked, isTwo, Trimmable, orderAt, orderLeft, orderStep}
 use Rattle.capability_engine.specs.RemapListing.{Some}
-use Rattle.capability_engine.proofs.RemapParts.{both}
+use Rattle.capability_engine.proofs.RemapParts.{both, bad-step}
 use Rattle.capability_engine.proofs.RemapPlaces.{zip-small, zip-start, zip-ahead, zip-end, zip-open, zip-holds, zip-skip}
 
 abbrev pub segment-at : Remapper → ℕ → Segment
@@ -122,6 +124,10 @@ bound m n (s ∷ ss) l = go (n ≤? s .hpa .0) refl (bound m n ss l)
     go true d ih = rw (le-leb m (s .hpa .0) (omega (arith, leb-true n (s .hpa .0) d))) ih
     go false d ih = off (m ≤? s .hpa .0) (all (λ t. m ≤? t .hpa .0) ss)
 
+and-true : (a : Bool) → (a && true) ≡ a
+and-true true = refl
+and-true false = refl
+
 and-assoc : (a b c : Bool) → ((a && b) && c) ≡ (a && (b && c))
 and-assoc true b c = refl
 and-assoc false b c = refl
@@ -142,24 +148,6 @@ all-zero : (ss : List Segment) → all (λ t. 0 ≤? t .hpa .0) ss ≡ true
 all-zero [] = refl
 all-zero (s ∷ ss) = rw (le-leb 0 (s .hpa .0) (omega arith)) (all-zero ss)
 
-abbrev pub Sorts : Remapper → ℕ → ℕ → List Segment → Type 0
-Sorts r m at ss = (ts : List Segment) × Some r at ts × (sortedFrom m ts ≡ inOrder ss)
-
-pub sorts-start : (r : Remapper) (ss : List Segment) → Holds r ss → Sorts r 0 (r .head) ss
-sorts-start r ss h = (ss, some-start r ss h, sorted-is 0 ss ∙ rw (all-zero ss))
-
-module _ (r : Remapper) (m at : ℕ) (ss : List Segment) (w : Sorts r m at ss) where
-  pub sorts-end : 64 ≤ at → true ≡ inOrder ss
-  sorts-end l = ap (sortedFrom m) (sym (some-end r at (w .0) (w .1) l)) ∙ w .2
-
-  pub sorts-stop : at < 64 → segment-at r at .hpa .0 < m → false ≡ inOrder ss
-  sorts-stop l h = let o = some-open r at (w .0) (w .1) l in sym (ap (sortedFrom m) (o .are) ∙ rw (lt-leb m (segment-at r at .hpa .0) h)) ∙ w .2
-
-  pub sorts-on : at < 64 → m ≤ segment-at r at .hpa .0 → Sorts r (segment-at r at .hpa .0) (next-of r at) ss
-  sorts-on l h =
-      let o = some-open r at (w .0) (w .1) l in
-      (o .more, o .on, sym (ap (sortedFrom m) (o .are) ∙ rw (le-leb m (segment-at r at .hpa .0) h)) ∙ w .2)
-
 -- ---- the questions
 
 abbrev pub Asks : Remapper → Span → Asked → ℕ → List Segment → Type 0
@@ -176,6 +164,55 @@ module _ (r : Remapper) (p : Span) (k : Asked) (at : ℕ) (ss : List Segment) (w
   asks-on k2 l e =
       let o = some-open r at (w .0) (w .1) l in
       (o .more, o .on, ap (λ q. askAll p q (o .more)) e ∙ sym (ap (askAll p k) (o .are)) ∙ w .2)
+
+-- ---- the order of what is left
+
+-- what is still to come of it
+abbrev pub still : Span → Order → List Segment → Bool
+still p o ts = o .sorted && sortedFrom (o .last) (cond (o .two) ts (walked p ts))
+
+-- one more segment
+still-step : (p : Span) (o : Order) (s : Segment) (ts : List Segment) → still p (orderStep p false o s) ts ≡ still p o (s ∷ ts)
+unfolding orderStep orderAt
+still-step p o s ts = go (o .two) refl (leftOf p s) refl
+  where
+    go : (b : Bool) → o .two ≡ b → (l : Left) → leftOf p s ≡ l → still p (orderStep p false o s) ts ≡ still p o (s ∷ ts)
+    go true d l f = simp d (and-assoc (o .sorted) (o .last ≤? s .hpa .0) (sortedFrom (s .hpa .0) ts))
+    go false d Gone f = simp (d, f)
+    go false d (Kept t) f = simp (d, f) (and-assoc (o .sorted) (o .last ≤? t .hpa .0) (sortedFrom (t .hpa .0) (walked p ts)))
+    go false d (Two t u) f =
+        simp (d, f)
+        (and-assoc (o .sorted && (o .last ≤? t .hpa .0)) (t .hpa .0 ≤? u .hpa .0) (sortedFrom (u .hpa .0) ts)
+        ∙ and-assoc (o .sorted) (o .last ≤? t .hpa .0) ((t .hpa .0 ≤? u .hpa .0) && sortedFrom (u .hpa .0) ts))
+
+abbrev pub unordered : Order
+unordered = record { last = 0; sorted = true; two = false }
+
+abbrev pub Orders : Remapper → Span → Asked → Order → ℕ → List Segment → Type 0
+Orders r p k o at ss = (ts : List Segment) × Some r at ts × (k .bad ≡ false → still p o ts ≡ inOrder (walked p ss))
+
+pub orders-start : (r : Remapper) (p : Span) (k : Asked) (ss : List Segment) → Holds r ss → Orders r p k unordered (r .head) ss
+orders-start r p k ss h = (ss, some-start r ss h, λ b. sorted-is 0 (walked p ss) ∙ rw (all-zero (walked p ss)))
+
+module _ (r : Remapper) (p : Span) (k : Asked) (o : Order) (at : ℕ) (ss : List Segment) (w : Orders r p k o at ss) where
+  pub orders-end : 64 ≤ at → k .bad ≡ false → o .sorted ≡ inOrder (walked p ss)
+  orders-end l b = sym (and-true (o .sorted)) ∙ sym (flat (o .two)) ∙ ap (still p o) (sym (some-end r at (w .0) (w .1) l)) ∙ w .2 b
+    where
+      flat : (t : Bool) → (o .sorted && sortedFrom (o .last) (cond t [] [])) ≡ (o .sorted && true)
+      flat true = refl
+      flat false = refl
+
+  pub orders-on : (k2 : Asked) (o2 : Order) → at < 64 → k2 ≡ askStep p k (segment-at r at) → o2 ≡ orderStep p (k2 .bad) o (segment-at r at)
+      → Orders r p k2 o2 (next-of r at) ss
+  orders-on k2 o2 l e f =
+      let v = some-open r at (w .0) (w .1) l in (
+        v .more,
+        v .on,
+        λ b.
+            (let c = bad-step p k (segment-at r at) (ap (λ q. q .bad) (sym e) ∙ b) .0 in
+            let g : o2 ≡ orderStep p false o (segment-at r at) = f ∙ ap (λ q. orderStep p q o (segment-at r at)) b in
+            ap (λ q. still p q (v .more)) g ∙ still-step p o (segment-at r at) (v .more) ∙ sym (ap (still p o) (v .are)) ∙ w .2 c),
+      )
 
 -- nothing lies ahead of none
 ahead-none : (links : List ℕ) → ahead links 64 ≡ 0

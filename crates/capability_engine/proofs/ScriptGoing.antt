@@ -6,7 +6,7 @@ use mathlib.Core.List.{List, [], _∷_, _++_, append-assoc}
 use native.Mathlib.Omega.{arith}
 use native.Mathlib.Decide.{decLt}
 use lib.ListN.{length, take, drop, getD, set}
-use lib.Seq.{sets, drop-drop, drop-append-seam, take-all}
+use lib.Seq.{set-getD, sets, drop-drop, drop-append-seam, take-all}
 use borrow.Author.Tests.{lt-ltb, le-ltb}
 use Rattle.definitions.specs.Tests.{_<?_, bit}
 use Rattle.definitions.specs.Questions.{ask}
@@ -24,7 +24,7 @@ use Rattle.lines.proofs.Written.{length-answer}
 use Rattle.capability_engine.specs.declared.region.RegionTracker.{RegionTracker}
 use Rattle.capability_engine.specs.declared.region.Changed.{Changed as RegionChanged}
 use Rattle.capability_engine.specs.declared.remapper.Remapper.{Remapper}
-use Rattle.capability_engine.specs.declared.remapper.Changed.{Changed as SegmentChanged}
+use Rattle.capability_engine.specs.RemapAnswers.{Changed as SegmentChanged}
 use Rattle.capability_engine.specs.declared.compartments.Tables.{Tables}
 use Rattle.capability_engine.specs.declared.script.Progress.{Progress}
 use Rattle.capability_engine.specs.declared.script.Script.{Script}
@@ -309,6 +309,14 @@ module _ (calls : List Call) (c : Script) (input out words next links gens : Lis
           let grown = segments-grown words next links gens t (g .later) (g .grown) x l (segments-sound .2) d u v in
           answered words next links gens (record { arena = t .arena; trackers = t .trackers; remappers = set (t .remappers) j (u .remapper) }) (g .later ++ (x ∷ [])) now′ r (u .answer) o q room
           (rw same at grown) (rw e (ap (λ (y : Answer). answerLine y ∷ []) (sym (segments-answer words next links gens t (g .later) (g .grown) x l (segments-sound .2) d u v)))) (rw e (after-snoc (g .later) x))
+
+      -- it changes nothing
+      pub going-same : (d : Remapper) (y : Answer) (now′ : List ℕ) (r : Progress)
+          → OnSegments x (getD (t .remappers) j d) (record { answer = y; remapper = getD (t .remappers) j d })
+          → now′ ≡ sets now (p .at) (answerLine y) → r ≡ told moved 25 → p .at + 25 ≤ length now
+          → Going calls c input out words next links gens t line′ now′ r
+      going-same d y now′ r w o q room =
+          rw (set-getD (t .remappers) j d) at (going-segments d (record { answer = y; remapper = getD (t .remappers) j d }) now′ r w o q room)
 
 -- ---- each step leaves less to do
 

@@ -5,6 +5,7 @@ use mathlib.Core.Bool.{true}
 use mathlib.Core.List.{List, [], _∷_, _++_, append-nil}
 use native.Mathlib.Omega.{arith}
 use lib.ListN.{length, take, drop, getD, set, replicate, length-append, drop-of-length-le}
+use lib.Seq.{set-getD}
 use borrow.Author.Tests.{ne-eqb}
 use Rattle.definitions.specs.Reckoning.{compartmentOf}
 use Rattle.definitions.specs.Calls.{State, compartment, used, after}
@@ -17,7 +18,7 @@ use Rattle.lines.proofs.Pieces.{long-line, lines-own}
 use Rattle.capability_engine.specs.declared.region.RegionTracker.{RegionTracker}
 use Rattle.capability_engine.specs.declared.region.Changed.{Changed as RegionChanged}
 use Rattle.capability_engine.specs.declared.remapper.Remapper.{Remapper}
-use Rattle.capability_engine.specs.declared.remapper.Changed.{Changed as SegmentChanged}
+use Rattle.capability_engine.specs.RemapAnswers.{Changed as SegmentChanged}
 use Rattle.capability_engine.specs.declared.compartments.Tables.{Tables}
 use Rattle.capability_engine.specs.declared.script.Progress.{Progress}
 use Rattle.capability_engine.specs.declared.script.Script.{Script}
@@ -145,6 +146,11 @@ module _ (calls : List Call) (c : Script) (input words next links gens : List �
           let v = here (used (after (q .later))) (compartment (after (q .later)) (compartmentOf x)) (segments-held words next links gens t (q .later) (q .grown) (compartmentOf x) l d) (meant .2) in
           quiet-step words next links gens (record { arena = t .arena; trackers = t .trackers; remappers = set (t .remappers) j (u .remapper) }) (q .later ++ (x ∷ []))
           (rw same at (segments-grown words next links gens t (q .later) (q .grown) x l (meant .2) d u v)) (rw e (after-snoc (q .later) x))
+
+      -- it changes nothing
+      pub quiet-same : (d : Remapper) (y : Answer) → OnSegments x (getD (t .remappers) j d) (record { answer = y; remapper = getD (t .remappers) j d })
+          → Quiet calls c input words next links gens t line′ onward
+      quiet-same d y w = rw (set-getD (t .remappers) j d) at (quiet-segments d (record { answer = y; remapper = getD (t .remappers) j d }) w)
 
 -- ---- a whole script
 

@@ -1,11 +1,11 @@
 -- What the unmaps want to know of the list, and what one segment becomes. Both kinds of range in one.
-use Prim.Native.Nat.{_-_, _<_, _≤_}
+use Prim.Native.Nat.{ℕ, _-_, _<_, _≤_}
 use mathlib.Core.Path.{_≡_}
 use mathlib.Core.List.{List, [], _∷_}
 use mathlib.Core.Bool.{Bool, true, false, not, _&&_, _||_}
 use lib.ListN.{length}
 use Rattle.definitions.specs.Tests.{_<?_, _≤?_, _=?_, if_then_else_, all, any}
-use Rattle.definitions.specs.Segments.{hostEnd, spanEnd, front, rest, hostInside, touched, spanWhole, spanInside}
+use Rattle.definitions.specs.Segments.{inOrder, hostEnd, spanEnd, front, rest, hostInside, touched, spanWhole, spanInside}
 use Rattle.definitions.specs.Questions.{frontCut}
 use Rattle.definitions.specs.declared.addr.HostAddr.{HostAddr}
 use Rattle.definitions.specs.declared.addr.GuestAddr.{GuestAddr}
@@ -15,6 +15,8 @@ use Rattle.capability_engine.specs.declared.remapper.Span.the-variants.{
 use Rattle.capability_engine.specs.declared.remapper.Left.{Left}
 use Rattle.capability_engine.specs.declared.remapper.Left.the-variants.{Gone, Kept, Two}
 use Rattle.capability_engine.specs.declared.remapper.Asked.{Asked}
+use Rattle.capability_engine.specs.declared.remapper.Order.{Order}
+use Rattle.capability_engine.specs.declared.remapper.Found.{Found}
 use Rattle.capability_engine.specs.RemapHeld.{noSegment}
 
 -- the start is at or below the end
@@ -109,3 +111,28 @@ isTwo (Two s t) = true
 pub record Trimmable (p : Span) (ss : List Segment) : Type 0 where
   pub ok : all (okFor p) ss ≡ true
   pub room : any (λ s. isTwo (leftOf p s)) ss ≡ true → length ss < 64
+
+-- ---- the order of what is left, asked in the same walk
+
+-- one more is left, with this host address
+unfoldable pub orderAt : Order → ℕ → Order
+orderAt o h = record { last = h; sorted = o .sorted && (o .last ≤? h); two = o .two }
+
+abbrev pub orderLeft : Left → Order → Order
+orderLeft Gone o = o
+orderLeft (Kept s) o = orderAt o (s .hpa .0)
+orderLeft (Two s t) o =
+    record {
+      last = orderAt (orderAt o (s .hpa .0)) (t .hpa .0) .last;
+      sorted = orderAt (orderAt o (s .hpa .0)) (t .hpa .0) .sorted;
+      two = true;
+    }
+
+-- behind one that became two all are left; where the other questions refuse, the order is not asked
+unfoldable pub orderStep : Span → Bool → Order → Segment → Order
+orderStep p bad o s = if bad then o else if o .two then orderAt o (s .hpa .0) else orderLeft (leftOf p s) o
+
+-- what the walk finds
+pub record Finds (p : Span) (ss : List Segment) (r : Found) : Type 0 where
+  pub asks : r .asked ≡ askAll p nothingAsked ss
+  pub order : r .asked .bad ≡ false → r .sorted ≡ inOrder (walked p ss)

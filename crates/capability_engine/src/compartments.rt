@@ -2,7 +2,7 @@
 // new checks; what was grown from there is what every other call asks for.
 use crate::region::Changed as RegionChanged;
 use crate::region::RegionTracker;
-use crate::remapper::Changed as SegmentChanged;
+use crate::remapper::Change;
 use crate::remapper::Remapper;
 use crate::stream;
 use definitions::Answer;
@@ -24,7 +24,7 @@ ghost use Rattle.capability_engine.specs.PoolOwn.{heap};
 ghost use Rattle.capability_engine.specs.RegionAsks.{Tracked};
 ghost use Rattle.capability_engine.specs.RemapHeld.{IsHeld};
 ghost use Rattle.capability_engine.specs.CompartmentGrown.{Grown, IsGrown, Creates, Answers, Reads, ReadsPage, ReadsList};
-ghost use Rattle.capability_engine.specs.CompartmentSteps.{onRegions, onSegments, OnRegions, OnSegments};
+ghost use Rattle.capability_engine.specs.CompartmentSteps.{onRegions, onSegments, OnRegions, AsksSegments};
 
 // One tracker and one remapper for each compartment, and the arena of the pool's slots.
 pub struct Tables {
@@ -81,19 +81,16 @@ pub(crate) fn on_regions(
     }
 }
 
-// A call that changes the segments of one compartment: its remapper goes in and comes back. Any other leaves it as it is.
-pub(crate) fn on_segments(call: Call, remapper: Remapper) -> SegmentChanged
+// What a call that changes the segments of one compartment comes to. Any other changes nothing.
+pub(crate) fn on_segments(call: Call, remapper: Remapper) -> Change
     requires { ⌜ IsHeld remapper ⌝ }
-    ensures { λ r. ⌜ OnSegments call remapper r ⌝ }
+    ensures { λ r. ⌜ AsksSegments call remapper r ⌝ }
 {
     match call {
         Call::Map(_, hpa, gpa, size, repeat) => remapper.map_range(hpa, gpa, size, repeat),
         Call::Unmap(_, hpa, size) => remapper.unmap_range(hpa, size),
         Call::UnmapGpa(_, gpa, size) => remapper.unmap_gpa_range(gpa, size),
-        _ => SegmentChanged {
-            answer: Answer::Accepted(0),
-            remapper,
-        },
+        _ => Change::Keep(Answer::Accepted(0)),
     }
 }
 
@@ -200,19 +197,26 @@ impl Tables {
         let k = compartment as usize;
         let mut remappers = self.remappers;
         let remapper = remappers[k];
-        let r = on_segments(call, remapper);
-        let changed = r.remapper;
-        remappers[k] = changed;
-        let arena = self.arena;
-        let trackers = self.trackers;
-        let answer = r.answer;
-        Outcome {
-            tables: Tables {
-                arena,
-                trackers,
-                remappers,
+        let change = on_segments(call, remapper);
+        match change {
+            Change::Keep(answer) => Outcome {
+                tables: self,
+                answer,
             },
-            answer,
+            _ => {
+                let changed = remapper.apply(change);
+                remappers[k] = changed;
+                let arena = self.arena;
+                let trackers = self.trackers;
+                Outcome {
+                    tables: Tables {
+                        arena,
+                        trackers,
+                        remappers,
+                    },
+                    answer: Answer::Accepted(0),
+                }
+            }
         }
     }
 

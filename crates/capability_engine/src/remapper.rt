@@ -9,7 +9,7 @@ use free_list::Allocated;
 use free_list::FreeList;
 use free_list::Freed;
 ghost use mathlib.Core.Path.{_≡_};
-ghost use mathlib.Core.Bool.{true, _&&_, _||_};
+ghost use mathlib.Core.Bool.{true, false, _&&_, _||_};
 ghost use mathlib.Core.List.{List, [], _∷_, _++_};
 ghost use Prim.Native.Nat.{ℕ, _+_, _*_, _<_, _≤_};
 ghost use lib.ListN.{length};
@@ -17,12 +17,12 @@ ghost use lib.Seq.{sets};
 ghost use Rattle.free_list.specs.Stack.{FreeListCall};
 ghost use Rattle.free_list.specs.Grown.{Grown, IsGrown, Allocates, Frees};
 ghost use Rattle.definitions.proofs.SegmentLaws.{Good};
-ghost use Rattle.definitions.specs.Segments.{segment, hits, isIdentity, place, inOrder, hostEnd, spanEnd, front as frontOf, rest as restOf, hostInside, touched, spanWhole, spanInside};
+ghost use Rattle.definitions.specs.Segments.{segment, hits, isIdentity, place, hostEnd, spanEnd, front as frontOf, rest as restOf, hostInside, touched, spanWhole, spanInside};
 ghost use Rattle.definitions.specs.Questions.{frontCut};
 ghost use Rattle.definitions.specs.Pages.{segmentGroup};
 ghost use Rattle.capability_engine.specs.RemapHeld.{joinLinks, joinHead, Zip, Holds, IsHeld};
-ghost use Rattle.capability_engine.specs.RemapAsking.{leftHost, leftGuest, leftOf, okGuest, okFor, askHost, askGuest, askStep, askAll, nothingAsked, walked, inRange, repeats, halfOf, Trimmable};
-ghost use Rattle.capability_engine.specs.RemapAnswers.{canMap, canUnmap, canStart, canUnmapGpa, Overlaps, Maps, Unmaps, UnmapsGpa};
+ghost use Rattle.capability_engine.specs.RemapAsking.{leftHost, leftGuest, leftOf, okGuest, okFor, askHost, askGuest, askStep, askAll, nothingAsked, walked, inRange, orderAt, orderStep, Finds, repeats, halfOf, Trimmable};
+ghost use Rattle.capability_engine.specs.RemapAnswers.{Does, Decides, settled, canMap, canUnmap, canStart, canUnmapGpa, Overlaps, Maps, Unmaps, UnmapsGpa};
 ghost use Rattle.capability_engine.specs.RemapListing.{Copied, IsAhead, Starts, Steps};
 
 pub struct Remapper {
@@ -33,10 +33,13 @@ pub struct Remapper {
     pub head: usize,
 }
 
-// What a call answers, and the remapper after it.
-pub(crate) struct Changed {
-    pub(crate) answer: Answer,
-    pub(crate) remapper: Remapper,
+// What a call comes to: an answer that leaves the remapper as it is, or a change, which is accepted with 0 and cannot be
+// refused any more. A segment is put in its place, or a range is cut out, or the range is cut out and a second half put in.
+pub(crate) enum Change {
+    Keep(Answer),
+    Put(Segment),
+    Cut(Span),
+    Split(Span, Segment),
 }
 
 // A cursor over the segments: the slot of the next one, 64 at the end.
@@ -73,6 +76,20 @@ pub(crate) struct Asked {
     pub(crate) half: Segment,
     // what question 13 or 15 refuses
     pub(crate) bad: bool,
+}
+
+// Are the segments that a range leaves in the order of their host addresses, so far? The last one's address, and whether one
+// became two, behind which all are left as they are.
+pub(crate) struct Order {
+    pub(crate) last: u64,
+    pub(crate) sorted: bool,
+    pub(crate) two: bool,
+}
+
+// What one walk finds out for an unmap.
+pub(crate) struct Found {
+    pub(crate) asked: Asked,
+    pub(crate) sorted: bool,
 }
 
 const MOST: u64 = 18446744073709551615;
@@ -358,6 +375,44 @@ fn ask_one(span: Span, k: Asked, s: Segment) -> Asked
     }
 }
 
+// One more is left, with this host address.
+fn left_at(o: Order, h: u64) -> Order
+    ensures { λ r. ⌜ r ≡ orderAt o h ⌝ }
+{
+    let sorted = and(o.sorted, o.last <= h);
+    Order {
+        last: h,
+        sorted,
+        two: o.two,
+    }
+}
+
+// The order of what is left, of one segment more. Where question 13 or 15 refuses, it is not asked.
+fn ask_order(span: Span, bad: bool, o: Order, s: Segment) -> Order
+    requires { ⌜ Good s × inRange span × (bad ≡ false → okFor span s ≡ true) ⌝ }
+    ensures { λ r. ⌜ r ≡ orderStep span bad o s ⌝ }
+{
+    if bad {
+        return o;
+    }
+    if o.two {
+        return left_at(o, s.hpa.0);
+    }
+    let l = leave(span, s);
+    match l {
+        Left::Gone => o,
+        Left::Kept(t) => left_at(o, t.hpa.0),
+        Left::Two(t, u) => {
+            let both = left_at(left_at(o, t.hpa.0), u.hpa.0);
+            Order {
+                last: both.last,
+                sorted: both.sorted,
+                two: true,
+            }
+        }
+    }
+}
+
 // ---- questions that need no walk
 
 // A map that stores nothing.
@@ -493,20 +548,20 @@ impl Remapper {
         ensures { λ r. ⌜ ((ss : List Segment) → Holds self ss → length ss < 64 → Holds r (place s ss)) ⌝ }
     {
         let h = s.hpa.0;
+        let mut out = self;
         let mut prev: usize = 64;
-        let mut at = self.head;
+        let mut at = out.head;
         let mut on = at;
         while on < 64 {
-            let t = self.segments[on];
+            let t = out.segments[on];
             if h < t.hpa.0 {
                 on = 64;
             } else {
                 prev = on;
-                at = self.links[on];
+                at = out.links[on];
                 on = at;
             }
         }
-        let mut out = self;
         let list = out.list;
         let x = list.head;
         out.segments[x] = s;
@@ -520,29 +575,10 @@ impl Remapper {
         out
     }
 
-    // Are the segments in the order of their host addresses?
-    fn sorted(self) -> bool
-        requires { ⌜ IsHeld self ⌝ }
-        ensures { λ r. ⌜ ((ss : List Segment) → Holds self ss → r ≡ inOrder ss) ⌝ }
-    {
-        let mut last: u64 = 0;
-        let mut at = self.head;
-        while at < 64 {
-            let s = self.segments[at];
-            let h = s.hpa.0;
-            if h < last {
-                return false;
-            }
-            last = h;
-            at = self.links[at];
-        }
-        true
-    }
-
     // What the questions of an unmap want to know.
-    fn asked(self, span: Span) -> Asked
+    fn asked(self, span: Span) -> Found
         requires { ⌜ IsHeld self × inRange span ⌝ }
-        ensures { λ r. ⌜ ((ss : List Segment) → Holds self ss → r ≡ askAll span nothingAsked ss) ⌝ }
+        ensures { λ r. ⌜ ((ss : List Segment) → Holds self ss → Finds span ss r) ⌝ }
     {
         let none = Segment {
             hpa: HostAddr(0),
@@ -557,17 +593,26 @@ impl Remapper {
             half: none,
             bad: false,
         };
+        let mut o = Order {
+            last: 0,
+            sorted: true,
+            two: false,
+        };
         let mut at = self.head;
         while at < 64 {
             let s = self.segments[at];
             k = ask_one(span, k, s);
+            o = ask_order(span, k.bad, o, s);
             at = self.links[at];
         }
-        k
+        Found {
+            asked: k,
+            sorted: o.sorted,
+        }
     }
 
     // Each segment becomes what the range leaves of it. The questions were asked.
-    fn trim(self, span: Span) -> Remapper
+    pub(crate) fn trim(self, span: Span) -> Remapper
         requires { ⌜ inRange span × ((ss : List Segment) × Holds self ss × Trimmable span ss) ⌝ }
         ensures { λ r. ⌜ ((ss : List Segment) → Holds self ss → Trimmable span ss → Holds r (walked span ss)) ⌝ }
     {
@@ -628,117 +673,91 @@ impl Remapper {
         Answer::Accepted(0)
     }
 
-    pub(crate) fn map_range(self, hpa: HostAddr, gpa: GuestAddr, size: u64, repeat: u64) -> Changed
+    pub(crate) fn map_range(self, hpa: HostAddr, gpa: GuestAddr, size: u64, repeat: u64) -> Change
         requires { ⌜ IsHeld self ⌝ }
         ensures { λ r. ⌜ Maps self hpa gpa size repeat r ⌝ }
     {
         let first = can_map(hpa, gpa, size, repeat);
         let Answer::Accepted(_) = first else {
-            return Changed {
-                answer: first,
-                remapper: self,
-            };
+            return Change::Keep(first);
         };
         let hit = self.overlaps(gpa, size * repeat);
         if hit.value() == 1 {
-            return Changed {
-                answer: Answer::Refused(Refusal::AlreadyAliased),
-                remapper: self,
-            };
+            return Change::Keep(Answer::Refused(Refusal::AlreadyAliased));
         }
         let list = self.list;
         if is_identity(hpa, gpa, repeat) {
-            return Changed {
-                answer: Answer::Accepted(0),
-                remapper: self,
-            };
+            return Change::Keep(Answer::Accepted(0));
         }
         if 64 <= list.count {
-            return Changed {
-                answer: Answer::Refused(Refusal::NoSlot),
-                remapper: self,
-            };
+            return Change::Keep(Answer::Refused(Refusal::NoSlot));
         }
         let s = new_segment(hpa, gpa, size, repeat);
-        let out = self.insert_segment(s);
-        Changed {
-            answer: Answer::Accepted(0),
-            remapper: out,
-        }
+        Change::Put(s)
     }
 
-    pub(crate) fn unmap_range(self, hpa: HostAddr, size: u64) -> Changed
+    pub(crate) fn unmap_range(self, hpa: HostAddr, size: u64) -> Change
         requires { ⌜ IsHeld self ⌝ }
         ensures { λ r. ⌜ Unmaps self hpa size r ⌝ }
     {
         let a = hpa.0;
         if MOST - a < size {
-            return Changed {
-                answer: Answer::Refused(Refusal::Overflow),
-                remapper: self,
-            };
+            return Change::Keep(Answer::Refused(Refusal::Overflow));
         }
         let span = Span::Host(hpa, HostAddr(a + size));
-        let k = self.asked(span);
+        let f = self.asked(span);
+        let k = f.asked;
         let list = self.list;
         let first = can_unmap(k, list.count);
         let Answer::Accepted(_) = first else {
-            return Changed {
-                answer: first,
-                remapper: self,
-            };
+            return Change::Keep(first);
         };
-        let out = self.trim(span);
-        if out.sorted() {
-            return Changed {
-                answer: Answer::Accepted(0),
-                remapper: out,
-            };
+        if f.sorted {
+            return Change::Cut(span);
         }
-        Changed {
-            answer: Answer::Refused(Refusal::OutOfOrder),
-            remapper: self,
-        }
+        Change::Keep(Answer::Refused(Refusal::OutOfOrder))
     }
 
     // A second half is placed as a new segment; that keeps the order, so it is asked of the list without it.
-    pub(crate) fn unmap_gpa_range(self, gpa: GuestAddr, size: u64) -> Changed
+    pub(crate) fn unmap_gpa_range(self, gpa: GuestAddr, size: u64) -> Change
         requires { ⌜ IsHeld self ⌝ }
         ensures { λ r. ⌜ UnmapsGpa self gpa size r ⌝ }
     {
         let list = self.list;
         let early = can_start(64 <= self.head, gpa, size);
         if early.value() != 1 {
-            return Changed {
-                answer: early,
-                remapper: self,
-            };
+            return Change::Keep(early);
         }
         let span = Span::Guest(gpa, GuestAddr(gpa.0 + size));
-        let k = self.asked(span);
+        let f = self.asked(span);
+        let k = f.asked;
         let first = can_unmap_gpa(k, list.count);
         let Answer::Accepted(_) = first else {
-            return Changed {
-                answer: first,
-                remapper: self,
-            };
+            return Change::Keep(first);
         };
-        let cut = self.trim(span);
-        if cut.sorted() {
+        if f.sorted {
             if k.split {
-                return Changed {
-                    answer: Answer::Accepted(0),
-                    remapper: cut.insert_segment(k.half),
-                };
+                let second = k.half;
+                return Change::Split(span, second);
             }
-            return Changed {
-                answer: Answer::Accepted(0),
-                remapper: cut,
-            };
+            return Change::Cut(span);
         }
-        Changed {
-            answer: Answer::Refused(Refusal::OutOfOrder),
-            remapper: self,
+        Change::Keep(Answer::Refused(Refusal::OutOfOrder))
+    }
+
+    // A change that a call came to.
+    pub(crate) fn apply(self, change: Change) -> Remapper
+        requires { ⌜ ((a : Answer) × (ss : List Segment) × Decides self a ss change) ⌝ }
+        ensures { λ r. ⌜ ((a : Answer) (ss : List Segment) → Decides self a ss change → Does self a ss (settled change r)) ⌝ }
+    {
+        match change {
+            Change::Put(s) => self.insert_segment(s),
+            Change::Cut(span) => self.trim(span),
+            Change::Split(span, s) => {
+                let cut = self.trim(span);
+                cut.insert_segment(s)
+            }
+            Change::Keep(_) => self,
         }
     }
 

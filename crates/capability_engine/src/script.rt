@@ -3,6 +3,7 @@ use crate::compartments::Tables;
 use crate::compartments::on_regions;
 use crate::compartments::on_segments;
 use crate::region::RegionTracker;
+use crate::remapper::Change;
 use crate::remapper::Remapper;
 use crate::stream::Step;
 use crate::stream::advance;
@@ -334,11 +335,17 @@ impl Tables {
                     }
                     Task::Segments(i, call) => {
                         let remapper = remappers[i];
-                        let r = on_segments(call, remapper);
-                        let changed = r.remapper;
-                        remappers[i] = changed;
-                        let answer = r.answer;
-                        p = tell(out, p, answer);
+                        let change = on_segments(call, remapper);
+                        match change {
+                            Change::Keep(answer) => {
+                                p = tell(out, p, answer);
+                            }
+                            _ => {
+                                let changed = remapper.apply(change);
+                                remappers[i] = changed;
+                                p = tell(out, p, Answer::Accepted(0));
+                            }
+                        }
                     }
                     Task::Print(i) => {
                         p.compartment = i;
@@ -391,9 +398,14 @@ impl Tables {
                 }
                 Task::Segments(i, call) => {
                     let remapper = remappers[i];
-                    let r = on_segments(call, remapper);
-                    let changed = r.remapper;
-                    remappers[i] = changed;
+                    let change = on_segments(call, remapper);
+                    match change {
+                        Change::Keep(_) => {}
+                        _ => {
+                            let changed = remapper.apply(change);
+                            remappers[i] = changed;
+                        }
+                    }
                 }
                 Task::Tell(_) => {}
                 Task::Print(_) => {}

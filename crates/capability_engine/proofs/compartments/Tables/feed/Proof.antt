@@ -7,7 +7,9 @@ use mathlib.Core.Path.{sym, _∙_}
 use lib.ListN.{length}
 use Rattle.definitions.specs.declared.call.Call.{Call}
 use Rattle.capability_engine.specs.CompartmentGrown.{Grown}
-use Rattle.capability_engine.proofs.ScriptGoing.{toDo, scriptAt, Going, going-start, shown, going-room, going-print, going-full, going-tell, going-part, going-owed, regions-sound, regions-tracked, going-regions, segments-sound, segments-held, going-segments, less-heard, less-told, less-full, less-print, going-end, sized}
+use Rattle.capability_engine.proofs.ScriptGoing.{toDo, scriptAt, Going, going-start, shown, going-room, going-print, going-full, going-tell, going-part, going-owed, regions-sound, regions-tracked, going-regions, segments-sound, segments-held, going-segments, going-same, less-heard, less-told, less-full, less-print, going-end, sized}
+use Rattle.capability_engine.specs.RemapAnswers.{done}
+use Rattle.capability_engine.proofs.CompartmentCalls.{keeps, ready, settles}
 use Rattle.capability_engine.proofs.compartments.Tables.feed.Statement.{statement}
 use Rattle.capability_engine.proofs.compartments.Tables.feed.Tie as tie
 
@@ -116,38 +118,53 @@ array-copy-out-remapper-2 c = segments-sound _ _ _ _ _ _ _ _ _ _ _ _ (c .before 
 on-segments-requires : tie.Need-on-segments-requires Inv-loop μ-loop
 on-segments-requires c κs = segments-held _ _ _ _ _ _ _ _ _ _ _ _ (c .before .before .before .before .before .before .before .before .before .before .before .before .loop .inv (c .before .before .before .before .before .before .before .before .before .before .before .before .before .before .before .before .before .before .before .before .before .before .before .before .pre .calls) (c .before .before .before .before .before .before .before .before .before .before .before .before .before .before .before .before .before .before .before .before .before .before .before .before .pre .grown)) (c .before .before .before .before .before .before .before .before .before .if2 .left) (c .before .before .before .before .before .before .before .before .before .before .before .goes-on .ensures .on (c .before .before .before .before .before .before .before .before .before .before .if1 .taken) .0) _ _ (c .before .before .before .before .before .hear .ensures) _ _ (c .before .before .task3 .given .1) _
 
-mul-remappers : tie.Need-mul-remappers Inv-loop μ-loop
-mul-remappers c = record { fits = omega (arith, segments-sound _ _ _ _ _ _ _ _ _ _ _ _ (c .before .before .before .before .before .before .before .before .before .before .before .before .before .before .loop .inv (c .before .before .before .before .before .before .before .before .before .before .before .before .before .before .before .before .before .before .before .before .before .before .before .before .before .before .pre .calls) (c .before .before .before .before .before .before .before .before .before .before .before .before .before .before .before .before .before .before .before .before .before .before .before .before .before .before .pre .grown)) (c .before .before .before .before .before .before .before .before .before .before .before .if2 .left) (c .before .before .before .before .before .before .before .before .before .before .before .before .before .goes-on .ensures .on (c .before .before .before .before .before .before .before .before .before .before .before .before .if1 .taken) .0) _ _ (c .before .before .before .before .before .before .before .hear .ensures) _ _ (c .before .before .before .before .task3 .given .1) .1) }
-
-array-set-from-remappers : tie.Need-array-set-from-remappers Inv-loop μ-loop
-array-set-from-remappers c = segments-sound _ _ _ _ _ _ _ _ _ _ _ _ (c .before .before .before .before .before .before .before .before .before .before .before .before .before .before .loop .inv (c .before .before .before .before .before .before .before .before .before .before .before .before .before .before .before .before .before .before .before .before .before .before .before .before .before .before .pre .calls) (c .before .before .before .before .before .before .before .before .before .before .before .before .before .before .before .before .before .before .before .before .before .before .before .before .before .before .pre .grown)) (c .before .before .before .before .before .before .before .before .before .before .before .if2 .left) (c .before .before .before .before .before .before .before .before .before .before .before .before .before .goes-on .ensures .on (c .before .before .before .before .before .before .before .before .before .before .before .before .if1 .taken) .0) _ _ (c .before .before .before .before .before .before .before .hear .ensures) _ _ (c .before .before .before .before .task3 .given .1) .1
+enum-known-change : tie.Need-enum-known-change Inv-loop μ-loop
+enum-known-change c = search needs
 
 tell-requires-3 : tie.Need-tell-requires-3 Inv-loop μ-loop
-tell-requires-3 c κs = ((room _ _ 25 _ (c .before .before .before .before .before .before .before .before .before .before .before .has-room .ensures) (c .before .before .before .before .before .before .before .before .before .before .if3 .left)), (c .before .before .before .before .before .before .before .before .before .before .before .before .before .before .before .loop .inv (c .before .before .before .before .before .before .before .before .before .before .before .before .before .before .before .before .before .before .before .before .before .before .before .before .before .before .before .pre .calls) (c .before .before .before .before .before .before .before .before .before .before .before .before .before .before .before .before .before .before .before .before .before .before .before .before .before .before .before .pre .grown)) .adds .counted)
+tell-requires-3 c κs = ((room _ _ 25 _ (c .before .before .before .before .before .before .before .before .before .before .before .before .before .has-room .ensures) (c .before .before .before .before .before .before .before .before .before .before .before .before .if3 .left)), (c .before .before .before .before .before .before .before .before .before .before .before .before .before .before .before .before .before .loop .inv (c .before .before .before .before .before .before .before .before .before .before .before .before .before .before .before .before .before .before .before .before .before .before .before .before .before .before .before .before .before .pre .calls) (c .before .before .before .before .before .before .before .before .before .before .before .before .before .before .before .before .before .before .before .before .before .before .before .before .before .before .before .before .before .pre .grown)) .adds .counted)
 
 loop-less-5 : tie.Need-loop-less-5 Inv-loop μ-loop
-loop-less-5 c = less-told _ _ _ _ (c .before .before .tell3 .ensures .1) (c .before .before .before .before .before .before .before .before .before .before .before .hear .ensures .ahead) (c .before .before .before .before .before .before .before .before .before .before .before .hear .ensures .taken)
+loop-less-5 c = less-told _ _ _ _ (c .before .before .tell3 .ensures .1) (c .before .before .before .before .before .before .before .before .before .before .before .before .before .hear .ensures .ahead) (c .before .before .before .before .before .before .before .before .before .before .before .before .before .hear .ensures .taken)
 
 loop-again-5 : tie.Need-loop-again-5 Inv-loop μ-loop
-loop-again-5 c = λ calls g. going-segments _ _ _ _ _ _ _ _ _ _ _ _ (c .before .before .before .before .before .before .before .before .before .before .before .before .before .before .before .before .before .before .loop .inv calls g) (c .before .before .before .before .before .before .before .before .before .before .before .before .before .before .before .if2 .left) (c .before .before .before .before .before .before .before .before .before .before .before .before .before .before .before .before .before .goes-on .ensures .on (c .before .before .before .before .before .before .before .before .before .before .before .before .before .before .before .before .if1 .taken) .0) _ _ (c .before .before .before .before .before .before .before .before .before .before .before .hear .ensures) _ _ (c .before .before .before .before .before .before .before .before .task3 .given .1) _ _ _ _ (c .before .before .before .before .before .on-segments .ensures) (c .before .before .tell3 .ensures .0) (c .before .before .tell3 .ensures .1) (room _ _ 25 _ (c .before .before .before .before .before .before .before .before .before .before .before .before .before .before .has-room .ensures) (c .before .before .before .before .before .before .before .before .before .before .before .before .before .if3 .left))
+loop-again-5 c = λ calls g. going-same _ _ _ _ _ _ _ _ _ _ _ _ (c .before .before .before .before .before .before .before .before .before .before .before .before .before .before .before .before .before .before .before .before .loop .inv calls g) (c .before .before .before .before .before .before .before .before .before .before .before .before .before .before .before .before .before .if2 .left) (c .before .before .before .before .before .before .before .before .before .before .before .before .before .before .before .before .before .before .before .goes-on .ensures .on (c .before .before .before .before .before .before .before .before .before .before .before .before .before .before .before .before .before .before .if1 .taken) .0) _ _ (c .before .before .before .before .before .before .before .before .before .before .before .before .before .hear .ensures) _ _ (c .before .before .before .before .before .before .before .before .before .before .task3 .given .1) _ _ _ _ (keeps _ _ _ (c .before .before .before .before .before .before .before .on-segments .ensures) _ (c .before .before .before .before .before .change .given .1)) (c .before .before .tell3 .ensures .0) (c .before .before .tell3 .ensures .1) (room _ _ 25 _ (c .before .before .before .before .before .before .before .before .before .before .before .before .before .before .before .before .has-room .ensures) (c .before .before .before .before .before .before .before .before .before .before .before .before .before .before .before .if3 .left))
+
+apply-requires : tie.Need-apply-requires Inv-loop μ-loop
+apply-requires c κs = ready _ _ (c .before .on-segments .result) (c .before .on-segments .ensures) (segments-sound _ _ _ _ _ _ _ _ _ _ _ _ (c .before .before .before .before .before .before .before .before .before .before .before .before .before .before .loop .inv (c .before .before .before .before .before .before .before .before .before .before .before .before .before .before .before .before .before .before .before .before .before .before .before .before .before .before .pre .calls) (c .before .before .before .before .before .before .before .before .before .before .before .before .before .before .before .before .before .before .before .before .before .before .before .before .before .before .pre .grown)) (c .before .before .before .before .before .before .before .before .before .before .before .if2 .left) (c .before .before .before .before .before .before .before .before .before .before .before .before .before .goes-on .ensures .on (c .before .before .before .before .before .before .before .before .before .before .before .before .if1 .taken) .0) _ _ (c .before .before .before .before .before .before .before .hear .ensures) _ _ (c .before .before .before .before .task3 .given .1) .2) (segments-held _ _ _ _ _ _ _ _ _ _ _ _ (c .before .before .before .before .before .before .before .before .before .before .before .before .before .before .loop .inv (c .before .before .before .before .before .before .before .before .before .before .before .before .before .before .before .before .before .before .before .before .before .before .before .before .before .before .pre .calls) (c .before .before .before .before .before .before .before .before .before .before .before .before .before .before .before .before .before .before .before .before .before .before .before .before .before .before .pre .grown)) (c .before .before .before .before .before .before .before .before .before .before .before .if2 .left) (c .before .before .before .before .before .before .before .before .before .before .before .before .before .goes-on .ensures .on (c .before .before .before .before .before .before .before .before .before .before .before .before .if1 .taken) .0) _ _ (c .before .before .before .before .before .before .before .hear .ensures) _ _ (c .before .before .before .before .task3 .given .1) _)
+
+mul-remappers : tie.Need-mul-remappers Inv-loop μ-loop
+mul-remappers c = record { fits = omega (arith, segments-sound _ _ _ _ _ _ _ _ _ _ _ _ (c .before .before .before .before .before .before .before .before .before .before .before .before .before .before .before .loop .inv (c .before .before .before .before .before .before .before .before .before .before .before .before .before .before .before .before .before .before .before .before .before .before .before .before .before .before .before .pre .calls) (c .before .before .before .before .before .before .before .before .before .before .before .before .before .before .before .before .before .before .before .before .before .before .before .before .before .before .before .pre .grown)) (c .before .before .before .before .before .before .before .before .before .before .before .before .if2 .left) (c .before .before .before .before .before .before .before .before .before .before .before .before .before .before .goes-on .ensures .on (c .before .before .before .before .before .before .before .before .before .before .before .before .before .if1 .taken) .0) _ _ (c .before .before .before .before .before .before .before .before .hear .ensures) _ _ (c .before .before .before .before .before .task3 .given .1) .1) }
+
+array-set-from-remappers : tie.Need-array-set-from-remappers Inv-loop μ-loop
+array-set-from-remappers c = segments-sound _ _ _ _ _ _ _ _ _ _ _ _ (c .before .before .before .before .before .before .before .before .before .before .before .before .before .before .before .loop .inv (c .before .before .before .before .before .before .before .before .before .before .before .before .before .before .before .before .before .before .before .before .before .before .before .before .before .before .before .pre .calls) (c .before .before .before .before .before .before .before .before .before .before .before .before .before .before .before .before .before .before .before .before .before .before .before .before .before .before .before .pre .grown)) (c .before .before .before .before .before .before .before .before .before .before .before .before .if2 .left) (c .before .before .before .before .before .before .before .before .before .before .before .before .before .before .goes-on .ensures .on (c .before .before .before .before .before .before .before .before .before .before .before .before .before .if1 .taken) .0) _ _ (c .before .before .before .before .before .before .before .before .hear .ensures) _ _ (c .before .before .before .before .before .task3 .given .1) .1
+
+tell-requires-4 : tie.Need-tell-requires-4 Inv-loop μ-loop
+tell-requires-4 c κs = ((room _ _ 25 _ (c .before .before .before .before .before .before .before .before .before .before .before .before .has-room .ensures) (c .before .before .before .before .before .before .before .before .before .before .before .if3 .left)), (c .before .before .before .before .before .before .before .before .before .before .before .before .before .before .before .before .loop .inv (c .before .before .before .before .before .before .before .before .before .before .before .before .before .before .before .before .before .before .before .before .before .before .before .before .before .before .before .before .pre .calls) (c .before .before .before .before .before .before .before .before .before .before .before .before .before .before .before .before .before .before .before .before .before .before .before .before .before .before .before .before .pre .grown)) .adds .counted)
+
+loop-less-6 : tie.Need-loop-less-6 Inv-loop μ-loop
+loop-less-6 c = less-told _ _ _ _ (c .before .before .tell4 .ensures .1) (c .before .before .before .before .before .before .before .before .before .before .before .before .hear .ensures .ahead) (c .before .before .before .before .before .before .before .before .before .before .before .before .hear .ensures .taken)
+
+loop-again-6 : tie.Need-loop-again-6 Inv-loop μ-loop
+loop-again-6 c = λ calls g. going-segments _ _ _ _ _ _ _ _ _ _ _ _ (c .before .before .before .before .before .before .before .before .before .before .before .before .before .before .before .before .before .before .before .loop .inv calls g) (c .before .before .before .before .before .before .before .before .before .before .before .before .before .before .before .before .if2 .left) (c .before .before .before .before .before .before .before .before .before .before .before .before .before .before .before .before .before .before .goes-on .ensures .on (c .before .before .before .before .before .before .before .before .before .before .before .before .before .before .before .before .before .if1 .taken) .0) _ _ (c .before .before .before .before .before .before .before .before .before .before .before .before .hear .ensures) _ _ (c .before .before .before .before .before .before .before .before .before .task3 .given .1) _ (done (c .before .before .before .before .apply .result)) _ _ (settles _ _ (c .before .before .before .before .before .before .on-segments .result) (c .before .before .before .before .before .before .on-segments .ensures) _ (c .before .before .before .before .apply .ensures) (c .before .before .before .before .before .match2 .keys2)) (c .before .before .tell4 .ensures .0) (c .before .before .tell4 .ensures .1) (room _ _ 25 _ (c .before .before .before .before .before .before .before .before .before .before .before .before .before .before .before .has-room .ensures) (c .before .before .before .before .before .before .before .before .before .before .before .before .before .before .if3 .left))
 
 enum-known-task-4 : tie.Need-enum-known-task-4 Inv-loop μ-loop
 enum-known-task-4 c = search needs
 
-loop-less-6 : tie.Need-loop-less-6 Inv-loop μ-loop
-loop-less-6 c = less-heard _ _ _ (c .before .before .before .before .hear .ensures .ahead) (c .before .before .before .before .hear .ensures .taken)
+loop-less-7 : tie.Need-loop-less-7 Inv-loop μ-loop
+loop-less-7 c = less-heard _ _ _ (c .before .before .before .before .hear .ensures .ahead) (c .before .before .before .before .hear .ensures .taken)
 
-loop-again-6 : tie.Need-loop-again-6 Inv-loop μ-loop
-loop-again-6 c = λ calls g. going-owed _ _ _ _ _ _ _ _ _ _ _ _ (c .before .before .before .before .before .before .before .before .before .before .before .loop .inv calls g) (c .before .before .before .before .before .before .before .before .if2 .left) (c .before .before .before .before .before .before .before .before .before .before .goes-on .ensures .on (c .before .before .before .before .before .before .before .before .before .if1 .taken) .0) _ _ (c .before .before .before .before .hear .ensures) _ (c .before .task4 .given .1)
+loop-again-7 : tie.Need-loop-again-7 Inv-loop μ-loop
+loop-again-7 c = λ calls g. going-owed _ _ _ _ _ _ _ _ _ _ _ _ (c .before .before .before .before .before .before .before .before .before .before .before .loop .inv calls g) (c .before .before .before .before .before .before .before .before .if2 .left) (c .before .before .before .before .before .before .before .before .before .before .goes-on .ensures .on (c .before .before .before .before .before .before .before .before .before .if1 .taken) .0) _ _ (c .before .before .before .before .hear .ensures) _ (c .before .task4 .given .1)
 
 enum-told : tie.Need-enum-told Inv-loop μ-loop
 enum-told c = search needs
 
-loop-less-7 : tie.Need-loop-less-7 Inv-loop μ-loop
-loop-less-7 c = less-heard _ _ _ (c .before .before .before .hear .ensures .ahead) (c .before .before .before .hear .ensures .taken)
+loop-less-8 : tie.Need-loop-less-8 Inv-loop μ-loop
+loop-less-8 c = less-heard _ _ _ (c .before .before .before .hear .ensures .ahead) (c .before .before .before .hear .ensures .taken)
 
-loop-again-7 : tie.Need-loop-again-7 Inv-loop μ-loop
-loop-again-7 c = λ calls g. going-part _ _ _ _ _ _ _ _ _ _ _ _ (c .before .before .before .before .before .before .before .before .before .before .loop .inv calls g) (c .before .before .before .before .before .before .before .if2 .left) (c .before .before .before .before .before .before .before .before .before .goes-on .ensures .on (c .before .before .before .before .before .before .before .before .if1 .taken) .0) _ _ (c .before .before .before .hear .ensures) (c .enum-told .given .1)
+loop-again-8 : tie.Need-loop-again-8 Inv-loop μ-loop
+loop-again-8 c = λ calls g. going-part _ _ _ _ _ _ _ _ _ _ _ _ (c .before .before .before .before .before .before .before .before .before .before .loop .inv calls g) (c .before .before .before .before .before .before .before .if2 .left) (c .before .before .before .before .before .before .before .before .before .goes-on .ensures .on (c .before .before .before .before .before .before .before .before .if1 .taken) .0) _ _ (c .before .before .before .hear .ensures) (c .enum-told .given .1)
 
 same-length : tie.Need-same-length Inv-loop μ-loop
 same-length c = going-room _ _ _ _ _ _ _ _ _ _ _ _ (c .before .before .loop .inv (c .before .before .before .before .before .before .before .before .before .before .before .before .before .before .pre .calls) (c .before .before .before .before .before .before .before .before .before .before .before .before .before .before .pre .grown))
@@ -205,17 +222,22 @@ feed-spec =
     mul-remapper-2
     array-copy-out-remapper-2
     on-segments-requires
-    mul-remappers
-    array-set-from-remappers
+    enum-known-change
     tell-requires-3
     loop-less-5
     loop-again-5
-    enum-known-task-4
+    apply-requires
+    mul-remappers
+    array-set-from-remappers
+    tell-requires-4
     loop-less-6
     loop-again-6
-    enum-told
+    enum-known-task-4
     loop-less-7
     loop-again-7
+    enum-told
+    loop-less-8
+    loop-again-8
     same-length
     same-length-2
     same-length-3

@@ -7,7 +7,9 @@ use borrow.Author.Needs.{needs, length-unmapped}
 use Rattle.definitions.specs.declared.call.Call.{Call}
 use Rattle.capability_engine.specs.CompartmentGrown.{Grown}
 use Rattle.capability_engine.proofs.ScriptGoing.{scriptAt, sized}
-use Rattle.capability_engine.proofs.ScriptRuns.{Quiet, less-used, quiet-start, quiet-end, quiet-tell, quiet-print, quiet-part, named, quiet-tracked, quiet-regions, meant, quiet-held, quiet-segments}
+use Rattle.capability_engine.proofs.ScriptRuns.{Quiet, less-used, quiet-start, quiet-end, quiet-tell, quiet-print, quiet-part, named, quiet-tracked, quiet-regions, meant, quiet-held, quiet-segments, quiet-same}
+use Rattle.capability_engine.specs.RemapAnswers.{done}
+use Rattle.capability_engine.proofs.CompartmentCalls.{keeps, ready, settles}
 use Rattle.capability_engine.proofs.compartments.Tables.run.Statement.{statement}
 use Rattle.capability_engine.proofs.compartments.Tables.run.Tie as tie
 
@@ -66,26 +68,29 @@ array-copy-out-remapper c = meant _ _ _ _ _ _ _ _ _ _ (c .before .before .before
 on-segments-requires : tie.Need-on-segments-requires Inv-loop μ-loop
 on-segments-requires c κs = quiet-held _ _ _ _ _ _ _ _ _ _ (c .before .before .before .before .before .before .before .before .before .loop .inv (c .before .before .before .before .before .before .before .before .before .before .before .before .before .before .before .before .before .before .before .before .pre .calls) (c .before .before .before .before .before .before .before .before .before .before .before .before .before .before .before .before .before .before .before .before .pre .grown)) _ _ (c .before .before .before .before .before .hear .ensures) _ _ (c .before .before .task2 .given .1) _
 
-mul-remappers : tie.Need-mul-remappers Inv-loop μ-loop
-mul-remappers c = record { fits = omega (arith, meant _ _ _ _ _ _ _ _ _ _ (c .before .before .before .before .before .before .before .before .before .before .before .loop .inv (c .before .before .before .before .before .before .before .before .before .before .before .before .before .before .before .before .before .before .before .before .before .before .pre .calls) (c .before .before .before .before .before .before .before .before .before .before .before .before .before .before .before .before .before .before .before .before .before .before .pre .grown)) _ _ (c .before .before .before .before .before .before .before .hear .ensures) _ _ (c .before .before .before .before .task2 .given .1) .1) }
-
-array-set-from-remappers : tie.Need-array-set-from-remappers Inv-loop μ-loop
-array-set-from-remappers c = meant _ _ _ _ _ _ _ _ _ _ (c .before .before .before .before .before .before .before .before .before .before .before .loop .inv (c .before .before .before .before .before .before .before .before .before .before .before .before .before .before .before .before .before .before .before .before .before .before .pre .calls) (c .before .before .before .before .before .before .before .before .before .before .before .before .before .before .before .before .before .before .before .before .before .before .pre .grown)) _ _ (c .before .before .before .before .before .before .before .hear .ensures) _ _ (c .before .before .before .before .task2 .given .1) .1
-
-loop-less-2 : tie.Need-loop-less-2 Inv-loop μ-loop
-loop-less-2 c = less-used _ _ _ (c .before .before .before .before .before .before .before .hear .ensures .ahead) (c .before .before .before .before .before .before .before .hear .ensures .taken)
-
-loop-again-2 : tie.Need-loop-again-2 Inv-loop μ-loop
-loop-again-2 c = λ calls g. quiet-segments _ _ _ _ _ _ _ _ _ _ (c .before .before .before .before .before .before .before .before .before .before .before .loop .inv calls g) _ _ (c .before .before .before .before .before .before .before .hear .ensures) _ _ (c .before .before .before .before .task2 .given .1) _ _ (c .before .on-segments .ensures)
-
 enum-told : tie.Need-enum-told Inv-loop μ-loop
 enum-told c = search needs
 
+loop-less-2 : tie.Need-loop-less-2 Inv-loop μ-loop
+loop-less-2 c = less-used _ _ _ (c .before .before .before .before .before .before .before .before .hear .ensures .ahead) (c .before .before .before .before .before .before .before .before .hear .ensures .taken)
+
+loop-again-2 : tie.Need-loop-again-2 Inv-loop μ-loop
+loop-again-2 c = λ calls g. quiet-same _ _ _ _ _ _ _ _ _ _ (c .before .before .before .before .before .before .before .before .before .before .before .before .loop .inv calls g) _ _ (c .before .before .before .before .before .before .before .before .hear .ensures) _ _ (c .before .before .before .before .before .task2 .given .1) _ _ (keeps _ _ _ (c .before .before .on-segments .ensures) _ (c .enum-told .given .1))
+
+apply-requires : tie.Need-apply-requires Inv-loop μ-loop
+apply-requires c κs = ready _ _ (c .before .on-segments .result) (c .before .on-segments .ensures) (meant _ _ _ _ _ _ _ _ _ _ (c .before .before .before .before .before .before .before .before .before .before .before .loop .inv (c .before .before .before .before .before .before .before .before .before .before .before .before .before .before .before .before .before .before .before .before .before .before .pre .calls) (c .before .before .before .before .before .before .before .before .before .before .before .before .before .before .before .before .before .before .before .before .before .before .pre .grown)) _ _ (c .before .before .before .before .before .before .before .hear .ensures) _ _ (c .before .before .before .before .task2 .given .1) .2) (quiet-held _ _ _ _ _ _ _ _ _ _ (c .before .before .before .before .before .before .before .before .before .before .before .loop .inv (c .before .before .before .before .before .before .before .before .before .before .before .before .before .before .before .before .before .before .before .before .before .before .pre .calls) (c .before .before .before .before .before .before .before .before .before .before .before .before .before .before .before .before .before .before .before .before .before .before .pre .grown)) _ _ (c .before .before .before .before .before .before .before .hear .ensures) _ _ (c .before .before .before .before .task2 .given .1) _)
+
+mul-remappers : tie.Need-mul-remappers Inv-loop μ-loop
+mul-remappers c = record { fits = omega (arith, meant _ _ _ _ _ _ _ _ _ _ (c .before .before .before .before .before .before .before .before .before .before .before .before .loop .inv (c .before .before .before .before .before .before .before .before .before .before .before .before .before .before .before .before .before .before .before .before .before .before .before .pre .calls) (c .before .before .before .before .before .before .before .before .before .before .before .before .before .before .before .before .before .before .before .before .before .before .before .pre .grown)) _ _ (c .before .before .before .before .before .before .before .before .hear .ensures) _ _ (c .before .before .before .before .before .task2 .given .1) .1) }
+
+array-set-from-remappers : tie.Need-array-set-from-remappers Inv-loop μ-loop
+array-set-from-remappers c = meant _ _ _ _ _ _ _ _ _ _ (c .before .before .before .before .before .before .before .before .before .before .before .before .loop .inv (c .before .before .before .before .before .before .before .before .before .before .before .before .before .before .before .before .before .before .before .before .before .before .before .pre .calls) (c .before .before .before .before .before .before .before .before .before .before .before .before .before .before .before .before .before .before .before .before .before .before .before .pre .grown)) _ _ (c .before .before .before .before .before .before .before .before .hear .ensures) _ _ (c .before .before .before .before .before .task2 .given .1) .1
+
 loop-less-3 : tie.Need-loop-less-3 Inv-loop μ-loop
-loop-less-3 c = less-used _ _ _ (c .before .before .before .hear .ensures .ahead) (c .before .before .before .hear .ensures .taken)
+loop-less-3 c = less-used _ _ _ (c .before .before .before .before .before .before .before .before .hear .ensures .ahead) (c .before .before .before .before .before .before .before .before .hear .ensures .taken)
 
 loop-again-3 : tie.Need-loop-again-3 Inv-loop μ-loop
-loop-again-3 c = λ calls g. quiet-tell _ _ _ _ _ _ _ _ _ _ (c .before .before .before .before .before .before .before .loop .inv calls g) _ _ (c .before .before .before .hear .ensures) _ (c .enum-told .given .1)
+loop-again-3 c = λ calls g. quiet-segments _ _ _ _ _ _ _ _ _ _ (c .before .before .before .before .before .before .before .before .before .before .before .before .loop .inv calls g) _ _ (c .before .before .before .before .before .before .before .before .hear .ensures) _ _ (c .before .before .before .before .before .task2 .given .1) _ (done (c .apply .result)) (settles _ _ (c .before .before .on-segments .result) (c .before .before .on-segments .ensures) _ (c .apply .ensures) (c .before .match2 .keys2))
 
 enum-told-2 : tie.Need-enum-told-2 Inv-loop μ-loop
 enum-told-2 c = search needs
@@ -94,7 +99,7 @@ loop-less-4 : tie.Need-loop-less-4 Inv-loop μ-loop
 loop-less-4 c = less-used _ _ _ (c .before .before .before .hear .ensures .ahead) (c .before .before .before .hear .ensures .taken)
 
 loop-again-4 : tie.Need-loop-again-4 Inv-loop μ-loop
-loop-again-4 c = λ calls g. quiet-print _ _ _ _ _ _ _ _ _ _ (c .before .before .before .before .before .before .before .loop .inv calls g) _ _ (c .before .before .before .hear .ensures) _ (c .enum-told2 .given .1)
+loop-again-4 c = λ calls g. quiet-tell _ _ _ _ _ _ _ _ _ _ (c .before .before .before .before .before .before .before .loop .inv calls g) _ _ (c .before .before .before .hear .ensures) _ (c .enum-told2 .given .1)
 
 enum-told-3 : tie.Need-enum-told-3 Inv-loop μ-loop
 enum-told-3 c = search needs
@@ -103,7 +108,16 @@ loop-less-5 : tie.Need-loop-less-5 Inv-loop μ-loop
 loop-less-5 c = less-used _ _ _ (c .before .before .before .hear .ensures .ahead) (c .before .before .before .hear .ensures .taken)
 
 loop-again-5 : tie.Need-loop-again-5 Inv-loop μ-loop
-loop-again-5 c = λ calls g. quiet-part _ _ _ _ _ _ _ _ _ _ (c .before .before .before .before .before .before .before .loop .inv calls g) _ _ (c .before .before .before .hear .ensures) (c .enum-told3 .given .1)
+loop-again-5 c = λ calls g. quiet-print _ _ _ _ _ _ _ _ _ _ (c .before .before .before .before .before .before .before .loop .inv calls g) _ _ (c .before .before .before .hear .ensures) _ (c .enum-told3 .given .1)
+
+enum-told-4 : tie.Need-enum-told-4 Inv-loop μ-loop
+enum-told-4 c = search needs
+
+loop-less-6 : tie.Need-loop-less-6 Inv-loop μ-loop
+loop-less-6 c = less-used _ _ _ (c .before .before .before .hear .ensures .ahead) (c .before .before .before .hear .ensures .taken)
+
+loop-again-6 : tie.Need-loop-again-6 Inv-loop μ-loop
+loop-again-6 c = λ calls g. quiet-part _ _ _ _ _ _ _ _ _ _ (c .before .before .before .before .before .before .before .loop .inv calls g) _ _ (c .before .before .before .hear .ensures) (c .enum-told4 .given .1)
 
 same-length : tie.Need-same-length Inv-loop μ-loop
 same-length c = sized _ _ _ _ _ _ ((c .before .before .loop .inv (c .before .before .before .before .before .before .before .before .before .before .before .before .before .pre .calls) (c .before .before .before .before .before .before .before .before .before .before .before .before .before .pre .grown)) .grown) .0 ∙ sym (sized _ _ _ _ _ _ (c .before .before .before .before .before .before .before .before .before .before .before .before .before .pre .grown) .0)
@@ -142,11 +156,12 @@ run-spec =
     mul-remapper
     array-copy-out-remapper
     on-segments-requires
-    mul-remappers
-    array-set-from-remappers
+    enum-told
     loop-less-2
     loop-again-2
-    enum-told
+    apply-requires
+    mul-remappers
+    array-set-from-remappers
     loop-less-3
     loop-again-3
     enum-told-2
@@ -155,6 +170,9 @@ run-spec =
     enum-told-3
     loop-less-5
     loop-again-5
+    enum-told-4
+    loop-less-6
+    loop-again-6
     same-length
     same-length-2
     same-length-3

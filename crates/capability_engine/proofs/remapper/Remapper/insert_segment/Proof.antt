@@ -9,10 +9,10 @@ use Rattle.capability_engine.proofs.remapper.Remapper.insert_segment.St
 use Rattle.capability_engine.proofs.remapper.Remapper.insert_segment.Tie as tie
 
 abbrev Inv-loop : tie.InvT-loop
-Inv-loop s self h prev₀ at₀ on₀ prev at on = (ss : List Segment) → Holds self ss → Seeks self s prev at on ss
+Inv-loop s h out prev₀ at₀ on₀ prev at on = (ss : List Segment) → Holds out ss → Seeks out s prev at on ss
 
 abbrev μ-loop : tie.MeasureT-loop
-μ-loop s self h prev₀ at₀ on₀ prev at on = ahead (self .links) on
+μ-loop s h out prev₀ at₀ on₀ prev at on = ahead (out .links) on
 
 loop-holds : tie.Need-loop-holds Inv-loop μ-loop
 loop-holds c = λ ss h. seeks-start _ _ ss h

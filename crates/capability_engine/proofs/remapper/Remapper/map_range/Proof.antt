@@ -1,6 +1,5 @@
 use mathlib.Core.Path.{sym, _∙_}
-use native.Mathlib.Omega.{arith}
-use Rattle.capability_engine.proofs.RemapCalls.{used, map-first, map-good, map-product, map-aliased, map-same, map-full, map-placed}
+use Rattle.capability_engine.proofs.RemapCalls.{map-first, map-product, map-aliased, map-same, map-full, map-puts}
 use borrow.Author.Needs.{needs}
 use Rattle.capability_engine.proofs.remapper.Remapper.map_range.Statement.{statement}
 use Rattle.capability_engine.proofs.remapper.Remapper.map_range.Tie as tie
@@ -41,11 +40,8 @@ returns-4 c = λ k h. map-full _ k h _ _ _ _ _ (c .before .before .before .befor
 new-segment-requires : tie.Need-new-segment-requires
 new-segment-requires c κs = search needs
 
-insert-segment-requires : tie.Need-insert-segment-requires
-insert-segment-requires c κs = (rw (c .new-segment .ensures) (map-good _ _ _ _ _ (c .before .before .before .before .before .before .before .before .before .before .before .can-map .ensures) _ (c .before .before .before .before .before .before .before .before .before .enum-told .given .1)), (c .before .before .before .before .before .before .before .before .before .before .before .before .pre .0, c .before .before .before .before .before .before .before .before .before .before .before .before .pre .1, omega (arith, c .before .if3 .left, used _ _ (c .before .before .before .before .before .before .before .before .before .before .before .before .pre .1))))
-
 returns-5 : tie.Need-returns-5
-returns-5 c = λ k h. map-placed _ k h _ _ _ _ _ (c .before .before .before .before .before .before .before .before .before .before .before .before .can-map .ensures) _ (c .before .before .before .before .before .before .before .before .before .before .enum-told .given .1) _ _ (c .before .before .before .before .before .before .before .before .before .overlaps .ensures k h) (c .before .before .before .before .before .before .before .before .value .ensures) (c .before .before .before .before .before .before .before .if1 .left) (sym (c .before .before .before .before .before .is-identity .ensures) ∙ c .before .before .before .before .if2 .left) (c .before .before .if3 .left) _ (rw (c .before .new-segment .ensures) at (c .insert-segment .ensures (k .segments) h (omega (arith, c .before .before .if3 .left, used _ _ h))))
+returns-5 c = λ k h. map-puts _ k h _ _ _ _ _ (c .before .before .before .before .before .before .before .before .before .before .before .can-map .ensures) _ (c .before .before .before .before .before .before .before .before .before .enum-told .given .1) _ _ (c .before .before .before .before .before .before .before .before .overlaps .ensures k h) (c .before .before .before .before .before .before .before .value .ensures) (c .before .before .before .before .before .before .if1 .left) (sym (c .before .before .before .before .is-identity .ensures) ∙ c .before .before .before .if2 .left) (c .before .if3 .left) _ (c .new-segment .ensures)
 
 pub map-range-spec : {M : Type 1} → statement M
 map-range-spec =
@@ -63,5 +59,4 @@ map-range-spec =
     returns-3
     returns-4
     new-segment-requires
-    insert-segment-requires
     returns-5)

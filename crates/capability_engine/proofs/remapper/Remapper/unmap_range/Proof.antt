@@ -1,7 +1,7 @@
 use mathlib.Core.Path.{sym, _∙_}
 use native.Mathlib.Omega.{arith}
 use Rattle.definitions.specs.Tests.{hostUp}
-use Rattle.capability_engine.proofs.RemapCalls.{holding, unmap-large, unmap-first, unmap-trimmable, unmap-order, unmap-done}
+use Rattle.capability_engine.proofs.RemapCalls.{unmap-large, unmap-first, unmap-clean, unmap-order, unmap-cuts}
 use borrow.Author.Needs.{needs}
 use Rattle.capability_engine.proofs.remapper.Remapper.unmap_range.Statement.{statement}
 use Rattle.capability_engine.proofs.remapper.Remapper.unmap_range.Tie as tie
@@ -29,23 +29,15 @@ enum-told-2 c = search needs
 
 returns-2 : tie.Need-returns-2
 unfolding hostUp
-returns-2 c = λ k h. unmap-first _ k h _ _ (omega arith) _ (c .before .before .before .before .asked .ensures (k .segments) h) _ (c .before .before .can-unmap .ensures) _ (c .enum-told2 .given .1)
-
-trim-requires : tie.Need-trim-requires
-unfolding hostUp
-trim-requires c κs = (omega arith, (c .before .before .before .before .before .before .pre .0, c .before .before .before .before .before .before .pre .1, unmap-trimmable _ (holding (c .before .before .before .before .before .before .pre .0)) (c .before .before .before .before .before .before .pre .1) _ _ (omega arith) _ (c .before .before .before .before .asked .ensures (c .before .before .before .before .before .before .pre .0) (c .before .before .before .before .before .before .pre .1)) _ (c .before .before .can-unmap .ensures) _ (c .enum-told .given .1)))
-
-sorted-requires : tie.Need-sorted-requires
-unfolding hostUp
-sorted-requires c κs = (_, c .trim .ensures (c .before .before .before .before .before .before .before .pre .0) (c .before .before .before .before .before .before .before .pre .1) (unmap-trimmable _ (holding (c .before .before .before .before .before .before .before .pre .0)) (c .before .before .before .before .before .before .before .pre .1) _ _ (omega arith) _ (c .before .before .before .before .before .asked .ensures (c .before .before .before .before .before .before .before .pre .0) (c .before .before .before .before .before .before .before .pre .1)) _ (c .before .before .before .can-unmap .ensures) _ (c .before .enum-told .given .1)))
+returns-2 c = λ k h. unmap-first _ k h _ _ (omega arith) _ (c .before .before .before .before .before .asked .ensures (k .segments) h .asks) _ (c .before .before .can-unmap .ensures) _ (c .enum-told2 .given .1)
 
 returns-3 : tie.Need-returns-3
 unfolding hostUp
-returns-3 c = λ k h. let m = c .before .before .trim .ensures (k .segments) h (unmap-trimmable _ k h _ _ (omega arith) _ (c .before .before .before .before .before .before .before .asked .ensures (k .segments) h) _ (c .before .before .before .before .before .can-unmap .ensures) _ (c .before .before .before .enum-told .given .1)) in unmap-done _ k h _ _ (omega arith) _ (c .before .before .before .before .before .before .before .asked .ensures (k .segments) h) _ (c .before .before .before .before .before .can-unmap .ensures) _ (c .before .before .before .enum-told .given .1) _ m (sym (c .if2 .taken) ∙ c .before .sorted .ensures _ m)
+returns-3 c = λ k h. let w = c .before .before .before .before .before .before .asked .ensures (k .segments) h in unmap-cuts _ k h _ _ (omega arith) _ (w .asks) _ (c .before .before .before .can-unmap .ensures) _ (c .before .enum-told .given .1) (sym (c .if2 .taken) ∙ w .order (unmap-clean _ k h _ _ (omega arith) _ (w .asks) _ (c .before .before .before .can-unmap .ensures) _ (c .before .enum-told .given .1)))
 
 returns-4 : tie.Need-returns-4
 unfolding hostUp
-returns-4 c = λ k h. let m = c .before .before .trim .ensures (k .segments) h (unmap-trimmable _ k h _ _ (omega arith) _ (c .before .before .before .before .before .before .before .asked .ensures (k .segments) h) _ (c .before .before .before .before .before .can-unmap .ensures) _ (c .before .before .before .enum-told .given .1)) in unmap-order _ k h _ _ (omega arith) _ (c .before .before .before .before .before .before .before .asked .ensures (k .segments) h) _ (c .before .before .before .before .before .can-unmap .ensures) _ (c .before .before .before .enum-told .given .1) _ m (sym (c .if2 .left) ∙ c .before .sorted .ensures _ m)
+returns-4 c = λ k h. let w = c .before .before .before .before .before .before .asked .ensures (k .segments) h in unmap-order _ k h _ _ (omega arith) _ (w .asks) _ (c .before .before .before .can-unmap .ensures) _ (c .before .enum-told .given .1) (sym (c .if2 .left) ∙ w .order (unmap-clean _ k h _ _ (omega arith) _ (w .asks) _ (c .before .before .before .can-unmap .ensures) _ (c .before .enum-told .given .1)))
 
 pub unmap-range-spec : {M : Type 1} → statement M
 unmap-range-spec =
@@ -59,7 +51,5 @@ unmap-range-spec =
     enum-told
     enum-told-2
     returns-2
-    trim-requires
-    sorted-requires
     returns-3
     returns-4)
