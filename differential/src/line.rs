@@ -81,36 +81,43 @@ impl Call {
     }
 }
 
-/// A number, right-justified in a column.
+/// A number, right-justified in a column that is wide enough: spaces at once, and two digits for each division.
 pub fn put(out: &mut Vec<u8>, width: usize, number: u64) {
-    let mut digits = [b' '; 21];
-    let mut at = digits.len();
+    out.extend_from_slice(&[b' '; 21][..width]);
+    let mut at = out.len();
     let mut rest = number;
-    loop {
-        at -= 1;
-        digits[at] = b'0' + (rest % 10) as u8;
-        rest /= 10;
-        if rest == 0 {
-            break;
-        }
+    while rest >= 100 {
+        let two = (rest % 100) as u8;
+        rest /= 100;
+        out[at - 1] = b'0' + two % 10;
+        out[at - 2] = b'0' + two / 10;
+        at -= 2;
     }
-    out.extend_from_slice(&digits[digits.len() - width.max(digits.len() - at)..]);
+    let two = rest as u8;
+    out[at - 1] = b'0' + two % 10;
+    if two >= 10 {
+        out[at - 2] = b'0' + two / 10;
+    }
 }
 
-/// The number in a column: spaces, then digits without a leading zero, below 2^64.
+/// The number in a column: spaces, then digits without a leading zero, below 2^64. Only the 20th digit can be too much.
 fn take(column: &[u8]) -> Option<u64> {
     let digits = &column[column.iter().take_while(|b| **b == b' ').count()..];
-    if digits.is_empty() || (digits[0] == b'0' && digits.len() > 1) {
+    if digits.is_empty() || (digits[0] == b'0' && digits.len() > 1) || digits.len() > 20 {
         return None;
     }
     let mut number: u64 = 0;
-    for digit in digits {
+    for digit in &digits[..digits.len().min(19)] {
         if !digit.is_ascii_digit() {
             return None;
         }
-        number = number.checked_mul(10)?.checked_add(u64::from(digit - b'0'))?;
+        number = number * 10 + u64::from(digit - b'0');
     }
-    Some(number)
+    match digits.get(19) {
+        None => Some(number),
+        Some(last) if last.is_ascii_digit() => number.checked_mul(10)?.checked_add(u64::from(last - b'0')),
+        Some(_) => None,
+    }
 }
 
 /// Lines as the bytes of a script.
