@@ -107,6 +107,12 @@ module _ (nx ws sg : List ℕ) (n : ℕ) (c : RemapCursor) (g : Ready nx ws sg n
 pub end-fits : {ws sg : List ℕ} {n : ℕ} (i : ℕ) (s : Segment) → Table ws sg n → i < n → s ≡ segmentAt sg i → s .hpa .0 + s .size < 2 ^ 64
 end-fits {ws} {sg} {n} i s g l e = rw e (good-at sg n i (g .good) l .host)
 
+-- a step after a turn that yields none
+says-on : (nx ws sg : List ℕ) (n : ℕ) (c d : RemapCursor) (q : Step) → remaining nx ws sg n c ≡ remaining nx ws sg n d
+    → toGo nx ws sg n d < toGo nx ws sg n c → Says nx ws sg n d q → Says nx ws sg n c q
+says-on nx ws sg n c d Done e l h = e ∙ h
+says-on nx ws sg n c d (Found m b) e l h = (e ∙ h .0, h .1, omega (arith, h .2))
+
 -- what a turn says, by its case
 module _ (nx ws sg : List ℕ) (n : ℕ) (c : RemapCursor) (q : Turn) (h : Turned nx ws sg n c q) where
   pub told-ends : q ≡ Ends → remaining nx ws sg n c ≡ []
@@ -119,6 +125,12 @@ module _ (nx ws sg : List ℕ) (n : ℕ) (c : RemapCursor) (q : Turn) (h : Turne
       → (remaining nx ws sg n c ≡ remaining nx ws sg n d) × Ready nx ws sg n d × (toGo nx ws sg n d < toGo nx ws sg n c)
   told-skips d e = rw e at h
 
+  -- the step s behind the skip is the step from c on, built anew as z
+  pub told-on : (d : RemapCursor) → q ≡ Skips d → (s z : Step) → Says nx ws sg n d s → s ≡ z → Says nx ws sg n c z
+  told-on d e s z k f =
+      let v = told-skips d e in
+      says-on nx ws sg n c d z (v .0) (v .2) (rw f at k)
+
 -- what an answer says, by its case
 module _ (nx ws sg : List ℕ) (n : ℕ) (c : RemapCursor) (q : Step) (h : Says nx ws sg n c q) where
   pub told-done : q ≡ Done → remaining nx ws sg n c ≡ []
@@ -126,9 +138,3 @@ module _ (nx ws sg : List ℕ) (n : ℕ) (c : RemapCursor) (q : Step) (h : Says 
 
   pub told-found : (m : Mapping) (d : RemapCursor) → q ≡ Found m d → Says nx ws sg n c (Found m d)
   told-found m d e = rw e at h
-
--- a step after a turn that yields none
-pub says-on : (nx ws sg : List ℕ) (n : ℕ) (c d : RemapCursor) (q : Step) → remaining nx ws sg n c ≡ remaining nx ws sg n d
-    → toGo nx ws sg n d < toGo nx ws sg n c → Says nx ws sg n d q → Says nx ws sg n c q
-says-on nx ws sg n c d Done e l h = e ∙ h
-says-on nx ws sg n c d (Found m b) e l h = (e ∙ h .0, h .1, omega (arith, h .2))

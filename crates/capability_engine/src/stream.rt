@@ -16,6 +16,7 @@ ghost use Rattle.capability_engine.specs.RegionListing.{permissionsFrom}
 ghost use Rattle.capability_engine.specs.SegmentWords.{segmentsFrom, segmentAt};
 ghost use Rattle.capability_engine.specs.StreamCursor.{Whole, Table, Ready, Says, Turned, Met, remaining, toGo, goesOn, begins, runs, lastTurn, firstTurn};
 ghost use Rattle.capability_engine.specs.StreamPage.{Filled};
+ghost use Rattle.capability_engine.specs.declared.stream.Turn.the-variants.{Yields};
 use crate::region::NextPermission;
 use crate::region::PermissionIterator;
 use crate::region::RegionTracker;
@@ -57,6 +58,12 @@ pub(crate) enum Turn {
     Yields(Mapping, RemapCursor),
     Skips(RemapCursor),
     Ends,
+}
+
+// A mapping that a turn yields, with the cursor behind it.
+pub(crate) struct Yielded {
+    pub(crate) mapping: Mapping,
+    pub(crate) cursor: RemapCursor,
 }
 
 fn load_segment(segments: &[u64], i: usize) -> Segment
@@ -139,20 +146,20 @@ fn after(end: u64, to: u64, here: usize, next: usize) -> usize
 }
 
 // The segment that was begun last yields at its next record.
-fn go_on(c: RemapCursor, next: &[usize], words: &[u64], segments: &[u64], n: usize) -> Turn
+fn go_on(c: RemapCursor, next: &[usize], words: &[u64], segments: &[u64], n: usize) -> Yielded
     requires { ⌜ Table (now words) (now segments) n ⌝ }
     requires { ⌜ Ready (now next) (now words) (now segments) n c ⌝ }
     requires { ⌜ goesOn (now words) c ≡ true ⌝ }
-    ensures { λ t. ⌜ Turned (now (next .entry)) (now (words .entry)) (now (segments .entry)) n c t ⌝ }
+    ensures { λ y. ⌜ Turned (now (next .entry)) (now (words .entry)) (now (segments .entry)) n c (Yields (y .mapping) (y .cursor)) ⌝ }
 {
     let i = c.ongoing;
     let r = load(words, i);
     let s = load_segment(segments, c.segment - 1);
     let end = c.end;
-    let m = share(s, end, r);
-    let mut d = c;
-    d.ongoing = next[i];
-    Turn::Yields(m, d)
+    let mapping = share(s, end, r);
+    let mut cursor = c;
+    cursor.ongoing = next[i];
+    Yielded { mapping, cursor }
 }
 
 // The part [from, to) of a record is yielded, if there is one.
@@ -222,7 +229,10 @@ fn take_turn(c: RemapCursor, next: &[usize], words: &[u64], segments: &[u64], n:
     ensures { λ t. ⌜ Turned (now (next .entry)) (now (words .entry)) (now (segments .entry)) n c t ⌝ }
 {
     if goes_on(c, words) {
-        return go_on(c, next, words, segments, n);
+        let y = go_on(c, next, words, segments, n);
+        let m = y.mapping;
+        let d = y.cursor;
+        return Turn::Yields(m, d);
     }
     let here = c.region;
     if here >= 1024 {
@@ -245,6 +255,7 @@ fn take_turn(c: RemapCursor, next: &[usize], words: &[u64], segments: &[u64], n:
 }
 
 // The next mapping. A turn that yields none skips on: the function calls itself.
+// That call's answer is taken apart and built again: the compiler then keeps a mapping in registers.
 pub(crate) fn next_mapping(
     c: RemapCursor,
     next: &[usize],
@@ -259,7 +270,13 @@ pub(crate) fn next_mapping(
     let t = take_turn(c, next, words, segments, n);
     match t {
         Turn::Yields(m, d) => Step::Found(m, d),
-        Turn::Skips(d) => next_mapping(d, next, words, segments, n),
+        Turn::Skips(d) => {
+            let s = next_mapping(d, next, words, segments, n);
+            match s {
+                Step::Found(m, e) => Step::Found(m, e),
+                Step::Done => Step::Done,
+            }
+        }
         Turn::Ends => Step::Done,
     }
 }
@@ -350,6 +367,7 @@ fn put_mapping(out: &mut [u64], i: usize, m: Mapping)
 }
 
 // The mappings from a cursor on, as many as there are and as fit.
+// A segment that goes on skips nothing, so its mappings are taken here, without the call that skips.
 fn fill(
     from: RemapCursor,
     next: &[usize],
@@ -367,13 +385,22 @@ fn fill(
     let mut c = from;
     let mut i: usize = 0;
     while i < room {
-        let s = next_mapping(c, next, words, segments, n);
-        let Step::Found(m, d) = s else {
-            return i;
-        };
-        put_mapping(out, i, m);
-        c = d;
-        i += 1;
+        if goes_on(c, words) {
+            let y = go_on(c, next, words, segments, n);
+            let m = y.mapping;
+            put_mapping(out, i, m);
+            let d = y.cursor;
+            c = d;
+            i += 1;
+        } else {
+            let s = next_mapping(c, next, words, segments, n);
+            let Step::Found(m, d) = s else {
+                return i;
+            };
+            put_mapping(out, i, m);
+            c = d;
+            i += 1;
+        }
     }
     i
 }

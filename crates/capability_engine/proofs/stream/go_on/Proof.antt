@@ -16,11 +16,11 @@ load-segment-requires c κs = let o = (c .before .before .before .before .before
 share-requires : tie.Need-share-requires
 share-requires c κs = rw (c .before .load-segment .ensures, c .before .before .before .load .ensures) (goes _ _ _ _ _ (c .before .before .before .before .before .before .before .pre .1 .0) (c .before .before .before .before .before .before .before .pre .0) (c .before .before .before .before .before .before .before .pre .1 .1))
 
-mul-d : tie.Need-mul-d
-mul-d c = omega (arith, on-at _ _ _ _ _ (c .before .before .before .before .before .before .before .before .pre .1 .0) (c .before .before .before .before .before .before .before .before .pre .1 .1) .0)
+mul-cursor : tie.Need-mul-cursor
+mul-cursor c = omega (arith, on-at _ _ _ _ _ (c .before .before .before .before .before .before .before .before .pre .1 .0) (c .before .before .before .before .before .before .before .before .pre .1 .1) .0)
 
-shared-slice-read-d : tie.Need-shared-slice-read-d
-shared-slice-read-d c = omega (arith, on-at _ _ _ _ _ (c .before .before .before .before .before .before .before .before .before .pre .1 .0) (c .before .before .before .before .before .before .before .before .before .pre .1 .1) .0, (c .before .before .before .before .before .before .before .before .before .pre .1 .0) .on .listed .size)
+shared-slice-read-cursor : tie.Need-shared-slice-read-cursor
+shared-slice-read-cursor c = omega (arith, on-at _ _ _ _ _ (c .before .before .before .before .before .before .before .before .before .pre .1 .0) (c .before .before .before .before .before .before .before .before .before .pre .1 .1) .0, (c .before .before .before .before .before .before .before .before .before .pre .1 .0) .on .listed .size)
 
 returns : tie.Need-returns
 returns c = on-says _ _ _ _ _ (c .before .before .before .before .before .before .before .before .before .pre .1 .0) _ _ _ _ (c .before .before .before .before .before .before .before .before .before .pre .1 .1) (c .before .before .before .before .before .load .ensures) (c .before .before .before .load-segment .ensures) (c .before .share .ensures) refl
@@ -33,6 +33,6 @@ go-on-spec =
     sub-load-segment
     load-segment-requires
     share-requires
-    mul-d
-    shared-slice-read-d
+    mul-cursor
+    shared-slice-read-cursor
     returns)
