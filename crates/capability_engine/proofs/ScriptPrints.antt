@@ -4,8 +4,8 @@ use mathlib.Core.Path.{_≡_, refl, sym, ap, subst, _∙_}
 use mathlib.Core.Bool.{Bool, true, false, true≢false}
 use mathlib.Core.List.{List, [], _∷_, _++_, map, append-assoc, append-nil}
 use native.Mathlib.Omega.{arith}
-use lib.ListN.{length, drop, length-append, length-map, length-drop}
-use lib.Seq.{sets, length-sets}
+use lib.ListN.{length, drop, set, length-append, length-map, length-drop}
+use lib.Seq.{set-comm, sets, length-sets}
 use borrow.Author.Tests.{leb-true, leb-false, lt-leb}
 use Rattle.definitions.specs.Tests.{_≤?_, if_then_else_}
 use Rattle.definitions.specs.Reckoning.{Compartment}
@@ -17,7 +17,7 @@ use Rattle.definitions.specs.declared.remapper.Mapping.{Mapping}
 use Rattle.columns.specs.Columns.{placeAfter, sliceAfter, Wrote}
 use Rattle.columns.specs.declared.Put.{Put}
 use Rattle.columns.specs.declared.Put.the-variants.{At, NoRoom}
-use Rattle.columns.proofs.Room.{sets-behind}
+use Rattle.columns.proofs.Room.{sets-behind, written}
 use Rattle.lines.proofs.Written.{length-answer, length-mapping}
 use Rattle.capability_engine.specs.declared.region.RegionTracker.{RegionTracker}
 use Rattle.capability_engine.specs.declared.remapper.Remapper.{Remapper}
@@ -25,7 +25,7 @@ use Rattle.capability_engine.specs.declared.script.Progress.{Progress}
 use Rattle.capability_engine.specs.PoolChain.{storedAt}
 use Rattle.capability_engine.specs.SegmentWords.{segmentsFrom}
 use Rattle.capability_engine.specs.RemapListing.{Copied}
-use Rattle.capability_engine.specs.ScriptSteps.{bytesOf, Adds, told, Prints, linesOn, Shows}
+use Rattle.capability_engine.specs.ScriptSteps.{bytesOf, Adds, Prints, linesOn, Shows}
 use Rattle.capability_engine.proofs.StreamLists.{each-append}
 use Rattle.capability_engine.proofs.StreamFills.{map-drop}
 
@@ -210,6 +210,15 @@ line-some m = omega (arith, length-mapping m)
 
 -- ---- a P
 
+-- one byte, and then some, are written before others that are written already
+set-before : (l : List ℕ) (i v at : ℕ) (xs : List ℕ) → i < at → set (sets l at xs) i v ≡ sets (set l i v) at xs
+set-before l i v at [] h = refl
+set-before l i v at (x ∷ xs) h = set-before (set l at x) i v (suc at) xs (omega arith) ∙ ap (λ (m : List ℕ). sets m (suc at) xs) (set-comm l at i x v (λ e. omega (arith, e)))
+
+sets-before : (a l : List ℕ) (i at : ℕ) (xs : List ℕ) → i + length a ≤ at → sets (sets l at xs) i a ≡ sets (sets l i a) at xs
+sets-before [] l i at xs h = refl
+sets-before (v ∷ a) l i at xs h = ap (λ (m : List ℕ). sets m (suc i) a) (set-before l i v at xs (omega arith)) ∙ sets-before a (set l i v) (suc i) at xs (omega arith)
+
 prints-same : {ls ls′ : List (List ℕ)} {out out′ : List ℕ} {p r : Progress} → ls ≡ ls′ → Prints ls out out′ p r → Prints ls′ out out′ p r
 prints-same {ls} {ls′} {out} {out′} {p} {r} e i = subst (λ (l : List (List ℕ)). Prints l out out′ p r) e i
 
@@ -247,35 +256,53 @@ module _ (words next : List ℕ) (t : RegionTracker) (m : Remapper) (c : Compart
         stuck = λ f. (refl, omega arith, λ b. none-whole (length out - p .at) (answerLine (Accepted (length (streamOf c)))) (map mappingLine (streamOf c) ++ b) (omega (arith, length-answer (Accepted (length (streamOf c))))));
       }
 
-      -- it is written, and then as many others as fit
-      module _ (many : ℕ) (out′ out″ : List ℕ) (q r : Progress) (h : p .lines ≤ p .at) (e : many ≡ length (stream (storedAt next words (t .head)) (segmentsFrom copy 0 n)))
-          (o : out′ ≡ sets out (p .at) (answerLine (Accepted many))) (f : q ≡ told p 25) (room : p .at + 25 ≤ length out) where
-        abbrev begun : Progress
-        begun = record {
-          len = q .len;
-          compartment = q .compartment;
-          from = 1;
-          used = q .used;
-          at = q .at;
-          lines = q .lines;
-          full = q .full;
-        }
+      -- as many others as fit are written behind its place, and then it
+      abbrev pub begun : Progress
+      begun = record {
+        len = p .len;
+        compartment = p .compartment;
+        from = 1;
+        used = p .used;
+        at = p .at + 25;
+        lines = p .lines + 1;
+        full = p .full;
+      }
 
-        pub print-all : Prints (drop (1 - 1) (map mappingLine (stream (storedAt next words (t .head)) (segmentsFrom copy 0 n)))) out′ out″ begun r
+      module _ (out′ : List ℕ) (r : Progress)
+          (i : Prints (drop (1 - 1) (map mappingLine (stream (storedAt next words (t .head)) (segmentsFrom copy 0 n)))) out out′ begun r) where
+        -- when all are written, there are as many as lines were written
+        pub print-many : r .full ≡ false → r .lines - begun .lines ≡ length (stream (storedAt next words (t .head)) (segmentsFrom copy 0 n))
+        print-many f =
+            let ms : List Mapping = stream (storedAt next words (t .head)) (segmentsFrom copy 0 n) in
+            omega (arith, i .adds .many, ap length (i .split), length-append (i .written) (i .left), ap length (i .whole f .0), length-map ms mappingLine)
+
+        pub print-all : (many : ℕ) (out″ : List ℕ) (u : Put) → p .lines ≤ p .at → p .at + 25 ≤ length out
+            → many ≡ length (stream (storedAt next words (t .head)) (segmentsFrom copy 0 n)) → Wrote (p .at) (answerLine (Accepted many)) out′ u out″
             → Prints (drop (p .from) (linesOn c)) out out″ p r
         unfolding linesOn
-        print-all i =
+        print-all many out″ u h room e w =
             let line : List ℕ = answerLine (Accepted (length (streamOf c))) in
-            let o′ : out′ ≡ sets out (p .at) line = o ∙ ap (λ (j : ℕ). sets out (p .at) (answerLine (Accepted j))) (e ∙ ap length print-stream) in
-            let one : Adds (line ∷ []) out out′ p begun
-            = adds-one out p begun out′ line 25 (length-answer (Accepted (length (streamOf c)))) (omega arith) h o′ (ap (λ (x : Progress). x .at) f) (ap (λ (x : Progress). x .lines) f) room in
+            let same : answerLine (Accepted many) ≡ line = ap (λ (j : ℕ). answerLine (Accepted j)) (e ∙ ap length print-stream) in
+            let size : length line ≡ 25 = length-answer (Accepted (length (streamOf c))) in
+            let first : List ℕ = sets out (p .at) line in
+            let one : Adds (line ∷ []) out first p begun = adds-one out p begun first line 25 size (omega arith) h refl refl refl room in
+            let kept : length first ≡ length out = length-sets out (p .at) line in
+            let o : out″ ≡ sets out′ (p .at) line =
+            written (p .at) 25 (answerLine (Accepted many)) out′ u out″ (length-answer (Accepted many)) (omega (arith, adds-length (i .written) out out′ begun r (i .adds))) w ∙ ap (sets out′ (p .at)) same in
+            let rest : Adds (i .written) first out″ begun r = record {
+              text = o ∙ ap (λ (x : List ℕ). sets x (p .at) line) (i .adds .text) ∙ sets-before line out (p .at) (p .at + 25) (bytesOf (i .written)) (omega arith);
+              end = i .adds .end;
+              many = i .adds .many;
+              counted = i .adds .counted;
+              fits = λ l. omega (arith, i .adds .fits (omega (arith, l, kept)), kept);
+            } in
             record {
               written = line ∷ i .written;
               left = i .left;
               split = all-lines ∙ ap (λ (ls : List (List ℕ)). line ∷ ls) (sym (ap (map mappingLine) print-stream) ∙ i .split);
-              adds = adds-more (line ∷ []) (i .written) out out′ out″ p begun r one (i .adds);
-              len = i .len ∙ ap (λ (x : Progress). x .len) f;
-              used = i .used ∙ ap (λ (x : Progress). x .used) f;
+              adds = adds-more (line ∷ []) (i .written) out first out″ p begun r one rest;
+              len = i .len;
+              used = i .used;
               whole = i .whole;
-              stuck = λ g. (i .stuck g .0 ∙ ap (λ (x : Progress). x .compartment) f, omega (arith, i .stuck g .1), λ b. ap (λ (j : ℕ). wholeLines (j - r .at) (i .left ++ b)) (sym (adds-length (line ∷ []) out out′ p begun one)) ∙ i .stuck g .2 b);
+              stuck = λ g. (i .stuck g .0, omega (arith, i .stuck g .1), i .stuck g .2);
             }

@@ -223,10 +223,20 @@ fn print(
         p.full = true;
         return p;
     }
-    let many = count(next, words, &segments, n, head);
-    let mut p = tell(out, progress, Answer::Accepted(many as u64));
+    // the mappings come first, behind the answer's line: when all are written, it is known how many they are
+    let mut p = progress;
+    p.at += ANSWER_LEN;
+    p.lines += 1;
     p.from = 1;
-    print_mappings(next, words, &segments, n, head, out, p)
+    let r = print_mappings(next, words, &segments, n, head, out, p);
+    if r.full {
+        let many = count(next, words, &segments, n, head);
+        put_answer(out, progress.at, Answer::Accepted(many as u64));
+        return r;
+    }
+    let many = r.lines - p.lines;
+    put_answer(out, progress.at, Answer::Accepted(many as u64));
+    r
 }
 
 // Is there something to do, and room that was not tried?

@@ -1,9 +1,9 @@
 use native.Mathlib.Omega.{arith}
-use mathlib.Core.Path.{ap, _∙_}
+use Prim.Native.Nat.{_+_, _≤_}
 use lib.Dec.{lit≤}
+use lib.ListN.{length}
 use Rattle.columns.proofs.Room.{room, no-room}
-use Rattle.capability_engine.specs.declared.script.Progress.{Progress}
-use Rattle.capability_engine.proofs.ScriptPrints.{print-rest, print-none, print-all}
+use Rattle.capability_engine.proofs.ScriptPrints.{print-rest, print-none, print-many, print-all}
 use borrow.Author.Needs.{needs}
 use Rattle.capability_engine.proofs.script.print.Statement.{statement}
 use Rattle.capability_engine.proofs.script.print.Tie as tie
@@ -32,26 +32,44 @@ has-room-requires c κs = search needs
 returns-2 : tie.Need-returns-2
 returns-2 c = λ d s. print-none _ _ _ _ d s _ _ _ (c .before .before .before .before .before .copy-segments .ensures _ (s .held)) _ _ (c .before .before .if1 .left) (no-room _ _ 25 _ (c .before .has-room .ensures) (c .if2 .taken)) (c .before .before .before .before .before .before .before .before .before .before .pre .1 .1)
 
-slice-aggregate-count : tie.Need-slice-aggregate-count
-slice-aggregate-count c = search needs
+add-p : tie.Need-add-p
+add-p c = let l : c .before .before .before .before .before .before .before .before .before .before .before .args .progress .at + 25 ≤ length (c .before .before .before .before .before .before .before .before .before .before .before .args .out .now) = room _ _ 25 _ (c .before .before .has-room .ensures) (c .before .if2 .left) in search needs
 
-count-requires : tie.Need-count-requires
-count-requires c κs = (c .before .before .before .before .before .before .before .before .before .before .before .pre .0 .1 .table _ _ _ (lit≤ tt) (c .before .before .before .before .before .before .copy-segments .ensures _ (c .before .before .before .before .before .before .before .before .before .before .before .pre .0 .1 .held)), c .before .before .before .before .before .before .before .before .before .before .before .pre .0 .1 .whole)
-
-tell-requires : tie.Need-tell-requires
-tell-requires c κs = (room _ _ 25 _ (c .before .before .before .before .has-room .ensures) (c .before .before .before .if2 .left), c .before .before .before .before .before .before .before .before .before .before .before .before .before .pre .1 .1)
+add-p-2 : tie.Need-add-p-2
+add-p-2 c = search needs
 
 slice-aggregate-print-mappings-2 : tie.Need-slice-aggregate-print-mappings-2
 slice-aggregate-print-mappings-2 c = search needs
 
 print-mappings-requires-2 : tie.Need-print-mappings-requires-2
-print-mappings-requires-2 c κs = (c .before .before .before .before .before .before .before .before .before .before .before .before .before .before .before .before .before .before .pre .0 .1 .table _ _ _ (lit≤ tt) (c .before .before .before .before .before .before .before .before .before .before .before .before .before .copy-segments .ensures _ (c .before .before .before .before .before .before .before .before .before .before .before .before .before .before .before .before .before .before .pre .0 .1 .held)), (c .before .before .before .before .before .before .before .before .before .before .before .before .before .before .before .before .before .before .pre .0 .1 .whole, (omega arith, ap (λ (x : Progress). x .full) (c .before .before .before .before .tell .ensures .1) ∙ c .before .before .before .before .before .before .before .before .before .before .before .before .before .before .before .before .before .before .pre .1 .0, omega (arith, c .before .before .before .before .before .before .before .before .before .before .before .before .before .before .before .before .before .before .pre .1 .1, ap (λ (x : Progress). x .at) (c .before .before .before .before .tell .ensures .1), ap (λ (x : Progress). x .lines) (c .before .before .before .before .tell .ensures .1)))))
+print-mappings-requires-2 c κs = (c .before .before .before .before .before .before .before .before .before .before .before .before .before .before .pre .0 .1 .table _ _ _ (lit≤ tt) (c .before .before .before .before .before .before .before .before .before .copy-segments .ensures _ (c .before .before .before .before .before .before .before .before .before .before .before .before .before .before .pre .0 .1 .held)), (c .before .before .before .before .before .before .before .before .before .before .before .before .before .before .pre .0 .1 .whole, (omega arith, c .before .before .before .before .before .before .before .before .before .before .before .before .before .before .pre .1 .0, omega (arith, c .before .before .before .before .before .before .before .before .before .before .before .before .before .before .pre .1 .1))))
+
+slice-aggregate-count : tie.Need-slice-aggregate-count
+slice-aggregate-count c = search needs
+
+count-requires : tie.Need-count-requires
+count-requires c κs = (c .before .before .before .before .before .before .before .before .before .before .before .before .before .before .before .before .before .before .before .pre .0 .1 .table _ _ _ (lit≤ tt) (c .before .before .before .before .before .before .before .before .before .before .before .before .before .before .copy-segments .ensures _ (c .before .before .before .before .before .before .before .before .before .before .before .before .before .before .before .before .before .before .before .pre .0 .1 .held)), c .before .before .before .before .before .before .before .before .before .before .before .before .before .before .before .before .before .before .before .pre .0 .1 .whole)
+
+put-answer-requires : tie.Need-put-answer-requires
+put-answer-requires c κs = search needs
 
 same-length-2 : tie.Need-same-length-2
 same-length-2 c = search needs
 
 returns-3 : tie.Need-returns-3
-returns-3 c = λ d s. print-all _ _ _ _ d s _ _ _ (c .before .before .before .before .before .before .before .before .before .before .before .before .before .before .before .before .copy-segments .ensures _ (s .held)) _ _ (c .before .before .before .before .before .before .before .before .before .before .before .before .before .if1 .left) _ _ _ _ _ (c .before .before .before .before .before .before .before .before .before .before .before .before .before .before .before .before .before .before .before .before .before .pre .1 .1) (c .before .before .before .before .before .before .before .before .before .count .ensures) (c .before .before .before .before .before .before .before .tell .ensures .0) (c .before .before .before .before .before .before .before .tell .ensures .1) (room _ _ 25 _ (c .before .before .before .before .before .before .before .before .before .before .before .before .has-room .ensures) (c .before .before .before .before .before .before .before .before .before .before .before .if2 .left)) (c .before .before .print-mappings2 .ensures)
+returns-3 c = λ d s. print-all _ _ _ _ d s _ _ _ (c .before .before .before .before .before .before .before .before .before .before .before .before .before .before .before .before .before .before .before .copy-segments .ensures _ (s .held)) _ _ (c .before .before .before .before .before .before .before .before .before .before .before .before .before .before .before .before .if1 .left) _ _ (c .before .before .before .before .before .before .before .before .before .print-mappings2 .ensures) _ _ _ (c .before .before .before .before .before .before .before .before .before .before .before .before .before .before .before .before .before .before .before .before .before .before .before .before .pre .1 .1) (room _ _ 25 _ (c .before .before .before .before .before .before .before .before .before .before .before .before .before .before .before .has-room .ensures) (c .before .before .before .before .before .before .before .before .before .before .before .before .before .before .if2 .left)) (c .before .before .before .before .count .ensures) (c .before .before .put-answer .ensures)
+
+sub-many : tie.Need-sub-many
+sub-many c = search needs
+
+put-answer-requires-2 : tie.Need-put-answer-requires-2
+put-answer-requires-2 c κs = search needs
+
+same-length-3 : tie.Need-same-length-3
+same-length-3 c = search needs
+
+returns-4 : tie.Need-returns-4
+returns-4 c = λ d s. print-all _ _ _ _ d s _ _ _ (c .before .before .before .before .before .before .before .before .before .before .before .before .before .before .before .before .before .before .before .copy-segments .ensures _ (s .held)) _ _ (c .before .before .before .before .before .before .before .before .before .before .before .before .before .before .before .before .if1 .left) _ _ (c .before .before .before .before .before .before .before .before .before .print-mappings2 .ensures) _ _ _ (c .before .before .before .before .before .before .before .before .before .before .before .before .before .before .before .before .before .before .before .before .before .before .before .before .pre .1 .1) (room _ _ 25 _ (c .before .before .before .before .before .before .before .before .before .before .before .before .before .before .before .has-room .ensures) (c .before .before .before .before .before .before .before .before .before .before .before .before .before .before .if2 .left)) (print-many _ _ _ _ d s _ _ _ (c .before .before .before .before .before .before .before .before .before .before .before .before .before .before .before .before .before .before .before .copy-segments .ensures _ (s .held)) _ _ (c .before .before .before .before .before .before .before .before .before .before .before .before .before .before .before .before .if1 .left) _ _ (c .before .before .before .before .before .before .before .before .before .print-mappings2 .ensures) (c .before .before .before .before .before .before .if3 .left)) (c .before .before .put-answer2 .ensures)
 
 pub print-spec : {M : Type 1} → statement M
 print-spec =
@@ -65,10 +83,16 @@ print-spec =
     returns
     has-room-requires
     returns-2
-    slice-aggregate-count
-    count-requires
-    tell-requires
+    add-p
+    add-p-2
     slice-aggregate-print-mappings-2
     print-mappings-requires-2
+    slice-aggregate-count
+    count-requires
+    put-answer-requires
     same-length-2
-    returns-3)
+    returns-3
+    sub-many
+    put-answer-requires-2
+    same-length-3
+    returns-4)
