@@ -68,6 +68,9 @@ pub record Going (calls : List Call) (c : Script) (input out : List ℕ) (words 
   pub nobody : p .compartment ≤ 8
   pub stuck : p .full ≡ true → (more : List ℕ)
       → wholeLines (length out - p .at) (due (after later) (scriptAt line p) (drop (p .used) input ++ more)) ≡ []
+  -- where no P was owed and there was room for an answer, bytes are taken before anything else is done
+  pub idle : 8 ≤ c .progress .compartment → c .progress .at + 25 ≤ length out → p .used ≡ 0
+      → (8 ≤ p .compartment) × (p .at ≡ c .progress .at) × (p .full ≡ false)
 
 -- ---- what is owed
 
@@ -110,6 +113,7 @@ module _ (calls : List Call) (line : List ℕ) (p : Progress) (input out words n
     taken = omega arith;
     nobody = omega arith;
     stuck = λ f. absurd (true≢false (sym f));
+    idle = λ k room z. (k, refl, refl);
   })
 
 -- ---- a P goes on
@@ -119,7 +123,7 @@ pub sized : (words next links gens : List ℕ) (t : Tables) (calls : List Call) 
 sized words next links gens t calls g = (g .pooled .wordsSize, g .pooled .nextSize, g .pooled .arena .grown .list .size, g .pooled .arena .grown .size)
 
 module _ (words next links gens : List ℕ) (t : Tables) (calls : List Call) (g : Grown words next links gens t calls) (k : ℕ) (l : k < 8) where
-  pub at-tracker : (d : RegionTracker) → getD (t .trackers) k d ≡ getD (t .trackers) k noTracker
+  at-tracker : (d : RegionTracker) → getD (t .trackers) k d ≡ getD (t .trackers) k noTracker
   at-tracker d =
       getD-any (t .trackers) k d noTracker
       (omega (arith, holds-long next words (t .trackers) (after calls) (g .pooled .holds), length-after calls))
@@ -144,8 +148,9 @@ module _ (calls : List Call) (c : Script) (input out words next links gens : Lis
       → ((more : List ℕ) → comes (after (g .later)) (scriptAt line p) (drop (p .used) input ++ more) ≡ comes (after later) (scriptAt line′ r) (drop (r .used) input ++ more))
       → length line′ ≡ 88 → r .len ≤ 88 → r .used ≤ length input → r .compartment ≤ 8
       → (r .full ≡ true → (more : List ℕ) → wholeLines (length now - r .at) (due (after later) (scriptAt line′ r) (drop (r .used) input ++ more)) ≡ [])
+      → (8 ≤ c .progress .compartment → c .progress .at + 25 ≤ length out → r .used ≡ 0 → ⊥)
       → Going calls c input out words′ next′ links′ gens′ t′ line′ now′ r
-  step words′ next′ links′ gens′ t′ later line′ now′ r ls grown adds prints leaves size short taken nobody stuck = record {
+  step words′ next′ links′ gens′ t′ later line′ now′ r ls grown adds prints leaves size short taken nobody stuck idle = record {
     later = later;
     grown = grown;
     lines = g .lines ++ ls;
@@ -157,6 +162,7 @@ module _ (calls : List Call) (c : Script) (input out words next links gens : Lis
     taken = taken;
     nobody = nobody;
     stuck = λ f more. ap (λ (n : ℕ). wholeLines (n - r .at) (due (after later) (scriptAt line′ r) (drop (r .used) input ++ more))) (sym going-room) ∙ stuck f more;
+    idle = λ k room z. absurd (idle k room z);
   }
 
   -- lines of a P are written
@@ -191,6 +197,7 @@ module _ (calls : List Call) (c : Script) (input out words next links gens : Lis
         (λ more. rw (i .len, i .used))
         (g .size) (omega (arith, i .len, g .short)) (omega (arith, i .used, g .taken)) (still-owed (r .full) refl .1)
         (λ f more. rw (rest-owed more) (i .stuck f .2 (outputFrom (after (g .later)) (linesWith (take (p .len) line) (drop (p .used) input ++ more)))))
+        (λ k room z. omega (arith, g .idle k room (sym (i .used) ∙ z) .0))
 
   -- there is no room for an answer
   pub going-full : 8 ≤ p .compartment → length now < p .at + 25 → Going calls c input out words next links gens t line now (stopped p)
@@ -200,6 +207,7 @@ module _ (calls : List Call) (c : Script) (input out words next links gens : Lis
       (λ more. refl) (λ more. refl) (g .size) (g .short) (g .taken) (g .nobody)
       (λ f more. rw (owed-none (after (g .later)) (p .compartment) (p .from) k)
       (short-room (after (g .later)) (length now - p .at) (linesWith (take (p .len) line) (drop (p .used) input ++ more)) (omega arith)))
+      (λ q room z. omega (arith, going-room, g .idle q room z .1))
 
   -- bytes are heard
   module _ (k : 8 ≤ p .compartment) (f : p .full ≡ false) (line′ : List ℕ) (h : Heard) (i : Hears line line′ (p .len) input (p .used) h) where
@@ -230,6 +238,7 @@ module _ (calls : List Call) (c : Script) (input out words next links gens : Lis
         (i .prints s₀ more ∙ ap (λ (x : List (List ℕ)). x ++ rest more) (rw s at e) ∙ append-assoc ls (owed s₁ (r .compartment) (r .from)) (rest more)))
         (λ more. rw (len, used, s) (i .leaves (after (g .later)) more))
         (i .size) (omega (arith, i .short)) (omega (arith, i .taken)) nobody (λ q. absurd (true≢false (sym q ∙ full)))
+        (λ q room z. omega (arith, used, i .ahead))
 
     -- a line is answered
     module _ (words′ next′ links′ gens′ : List ℕ) (t′ : Tables) (later : List Call) (now′ : List ℕ) (r : Progress) (a : Answer)
@@ -363,12 +372,18 @@ module _ (c : Script) (at : ℕ) (size : length (c .line) ≡ 88) where
   unfolding due
   same-due s bytes = rw (same-owed s, same-held)
 
-  pub same-comes : (s : State) (bytes : List ℕ) → comes s (scriptAt (c .line) (started (c .progress) at)) bytes ≡ comes s c bytes
+  same-comes : (s : State) (bytes : List ℕ) → comes s (scriptAt (c .line) (started (c .progress) at)) bytes ≡ comes s c bytes
   unfolding comes
   same-comes s bytes = rw same-held
 
   module _ (calls : List Call) (input out words next links gens : List ℕ) (t : Tables) (line now : List ℕ) (p q : Progress) (e : q ≡ started (c .progress) at)
       (g : Going calls (scriptAt (c .line) q) input out words next links gens t line now p) (b : Bool) (w : Goes p (length input) b) (z : b ≡ false) where
+    -- nothing taken, and yet at the end: there was no room, or nothing to take
+    idle-end : 8 ≤ c .progress .compartment → at + 25 ≤ length out → 1 ≤ length input → p .used ≡ 0 → ⊥
+    idle-end k room l u =
+        let i = g .idle (rw e (omega arith)) (rw e room) u in
+        omega (arith, w .off z (i .2) .1)
+
     pub going-end : Feeds calls c input out at words next links gens now (record { tables = t; script = scriptAt line p })
     going-end = record {
       later = g .later;
@@ -383,4 +398,5 @@ module _ (c : Script) (at : ℕ) (size : length (c .line) ≡ 88) where
       taken = g .taken;
       whole = λ f. (omega (arith, w .off z f, g .taken), omega (arith, w .off z f, g .nobody));
       stuck = g .stuck;
+      ahead = λ k room l. elim (decLt 0 (p .used)) [ yes m ↦ m | no m ↦ absurd (idle-end k room l (omega arith)) ];
     }

@@ -58,6 +58,8 @@ pub record Feeds (calls : List Call) (c : Script) (input out : List ℕ) (at : �
   pub whole : r .script .progress .full ≡ false → (r .script .progress .used ≡ length input) × (r .script .progress .compartment ≡ 8)
   pub stuck : r .script .progress .full ≡ true → (more : List ℕ)
       → (wholeLines (length out - r .script .progress .at) (due (after later) (r .script) (drop (r .script .progress .used) input ++ more)) ≡ [])
+  -- some of it is taken, where no P is owed and there is room for an answer
+  pub ahead : 8 ≤ c .progress .compartment → at + 25 ≤ length out → 1 ≤ length input → 1 ≤ r .script .progress .used
 
 -- a piece is run for what it leaves
 pub record Runs (calls : List Call) (c : Script) (input words' next' links' gens' : List ℕ) (r : Fed) : Type 0 where

@@ -375,7 +375,7 @@ impl Tables {
         }
     }
 
-    // Runs the lines that end in a piece of a script for what they leave: nothing is written.
+    // Runs the lines that end in a piece of a script for what they leave: what they print is dropped.
     fn run(
         self,
         script: Script,
@@ -388,47 +388,21 @@ impl Tables {
         requires { ⌜ IsGrown (now words) (now next) (now links) (now gens) self ⌝ }
         ensures { λ r. ⌜ ((calls : List Call) → Grown (now (words .entry)) (now (next .entry)) (now (links .entry)) (now (gens .entry)) self calls → Runs calls script (now (input .entry)) (now (words .exit)) (now (next .exit)) (now (links .exit)) (now (gens .exit)) r) ⌝ }
     {
-        let mut arena = self.arena;
-        let mut trackers = self.trackers;
-        let mut remappers = self.remappers;
-        let mut line = script.line;
-        let mut p = begin(script.progress, 0);
-        while p.used < input.len() {
-            let heard = hear(&mut line, p.len, input, p.used);
-            p.len = heard.len;
-            p.used = heard.used;
-            let task = heard.task;
-            match task {
-                Task::Regions(i, call) => {
-                    let tracker = trackers[i];
-                    let r = on_regions(call, tracker, arena, words, next, links, gens);
-                    let changed = r.tracker;
-                    trackers[i] = changed;
-                    arena = r.arena;
-                }
-                Task::Segments(i, call) => {
-                    let remapper = remappers[i];
-                    let change = on_segments(call, remapper);
-                    match change {
-                        Change::Keep(_) => {}
-                        _ => {
-                            let changed = remapper.apply(change);
-                            remappers[i] = changed;
-                        }
-                    }
-                }
-                Task::Tell(_) => {}
-                Task::Print(_) => {}
-                Task::Nothing => {}
-            }
+        let mut tables = self;
+        let mut left = script;
+        let mut out = [0u8; 65536];
+        let mut used: usize = 0;
+        while used < input.len() {
+            // a P that did not fit is not gone on with, so that each turn takes bytes
+            left.progress.compartment = 8;
+            let fed = tables.feed(left, &input[used..], &mut out, 0, words, next, links, gens);
+            tables = fed.tables;
+            left = fed.script;
+            used += left.progress.used;
         }
         Fed {
-            tables: Tables {
-                arena,
-                trackers,
-                remappers,
-            },
-            script: Script { line, progress: p },
+            tables,
+            script: left,
         }
     }
 

@@ -193,6 +193,7 @@ module _ (script out out' : List ℕ) (put : Put) (w : columns.Wrote 0 heading o
       taken = f .taken;
       whole = f .whole;
       stuck = λ g more. ap (λ (o : List ℕ). wholeLines (length o - r .script .progress .at) (due (after (f .later)) (r .script) (drop (r .script .progress .used) script ++ more))) (sym headed) ∙ f .stuck g more;
+      ahead = λ k l. f .ahead (omega (arith, ap (λ (s : Script). s .progress .compartment) b)) (omega (arith, ap length headed, from));
     }
 
     pub prints-full : r .script .progress .full ≡ true → Prints script out out1 (1 + r .script .progress .lines)
