@@ -1,30 +1,34 @@
 -- A call that may change one compartment, of all eight.
 use Prim.Native.Nat.{ℕ, _<_}
-use mathlib.Core.Path.{_≡_, refl, sym, ap, _∙_, subst}
-use mathlib.Core.Bool.{true}
-use mathlib.Core.List.{List, [], _∷_}
+use mathlib.Core.Path.{_≡_, refl, sym, ap, _∙_}
+use mathlib.Core.Bool.{true, false, true≢false}
+use mathlib.Core.List.{List}
 use native.Mathlib.Omega.{arith}
 use lib.ListN.{length, getD, set}
 use lib.Seq.{getD-set-same, set-getD}
-use types.Run.{OneOf}
-use denote.Enum.Declared.{tagOf}
 use Rattle.definitions.specs.Reckoning.{compartmentOf, reckon}
 use Rattle.definitions.specs.Calls.{compartment, used, answerIn, after}
+use Rattle.definitions.specs.Questions.{accepted}
+use Rattle.definitions.proofs.SegmentLaws.{Good}
+use Rattle.definitions.specs.declared.answer.Refusal.{Refusal}
 use Rattle.definitions.specs.declared.answer.Answer.{Answer}
+use Rattle.definitions.specs.declared.answer.Answer.the-variants.{Refused}
 use Rattle.definitions.specs.declared.remapper.Segment.{Segment}
 use Rattle.definitions.specs.declared.call.Call.{Call}
 use Rattle.capability_engine.specs.declared.region.RegionTracker.{RegionTracker}
 use Rattle.capability_engine.specs.declared.region.Changed.{Changed as RegionChanged}
 use Rattle.capability_engine.specs.declared.remapper.Remapper.{Remapper}
 use Rattle.capability_engine.specs.declared.remapper.Change.{Change}
-use Rattle.capability_engine.specs.declared.remapper.Change.the-variants.{Keep}
+use Rattle.capability_engine.specs.declared.remapper.Change.the-variants.{Keep, Put, Cut}
+use Rattle.capability_engine.specs.declared.remapper.Changed.{Changed as SegmentChanged}
+use Rattle.capability_engine.specs.declared.remapper.Span.{Span}
 use Rattle.capability_engine.specs.declared.compartments.Tables.{Tables}
 use Rattle.capability_engine.specs.CompartmentGrown.{trackersOf, Grown, Answers}
 use Rattle.capability_engine.specs.CompartmentSteps.{onRegions, onSegments, noTracker, OnRegions, OnSegments, AsksSegments}
-use Rattle.capability_engine.specs.RemapHeld.{IsHeld}
-use Rattle.capability_engine.specs.RemapAnswers.{Changed as SegmentChanged, Does, Decides, done, settled}
-use Rattle.capability_engine.proofs.remapper.Change.{the-type}
-use Rattle.capability_engine.proofs.RemapCalls.{holding, settled-done}
+use Rattle.capability_engine.specs.RemapHeld.{Holds, IsHeld}
+use Rattle.capability_engine.specs.RemapAsking.{inRange}
+use Rattle.capability_engine.specs.RemapAnswers.{Does, Decides, Inserts, CutsOut}
+use Rattle.capability_engine.proofs.RemapCalls.{holding, as-put, as-cut, did-put, did-cut, did-keep}
 use Rattle.capability_engine.proofs.CompartmentLaws.{eight}
 use Rattle.capability_engine.proofs.CompartmentFacts.{held, regions-grown, segments-answer, segments-kept, segments-grown}
 
@@ -32,19 +36,38 @@ use Rattle.capability_engine.proofs.CompartmentFacts.{held, regions-gro
 pub getD-any : {A : Type 0} (l : List A) (k : ℕ) (d e : A) → k < length l → getD l k d ≡ getD l k e
 getD-any l k d e h = ap (λ x. getD x k d) (sym (set-getD l k e)) ∙ getD-set-same l k (getD l k e) d h
 
--- what the questions of a call on segments come to: it is answered, or the change can be made and does it
+-- what the first questions of a call on segments come to: it is answered, or a change asks the rest and does it
 module _ (call : Call) (remapper : Remapper) (r : Change) (asks : AsksSegments call remapper r) where
   pub keeps : (x : Answer) → r ≡ Keep x → OnSegments call remapper (record { answer = x; remapper = remapper })
-  keeps x e = λ n c h o. subst (Decides remapper (answerIn n c call) (reckon call c .segments)) e (asks n c h o)
+  keeps x e = λ n c h o. did-keep remapper _ _ r (asks n c h o) x e
 
-  pub ready : onSegments call ≡ true → IsHeld remapper → ((a : Answer) × (ss : List Segment) × Decides remapper a ss r)
-  ready o h = (answerIn 0 (holding (h .0)) call, reckon call (holding (h .0)) .segments, asks 0 (holding (h .0)) (h .1) o)
+  pub puts : (s : Segment) → r ≡ Put s → (u : SegmentChanged) → Inserts remapper s true u → OnSegments call remapper u
+  puts s e u f = λ n c h o. did-put remapper _ _ r (asks n c h o) s e u f
 
-  pub settles : (out : Remapper) → ((a : Answer) (ss : List Segment) → Decides remapper a ss r → Does remapper a ss (settled r out))
-      → OneOf (1 ∷ 2 ∷ 3 ∷ []) (tagOf the-type r) → OnSegments call remapper (done out)
-  settles out did k = λ n c h o.
-      subst (Does remapper (answerIn n c call) (reckon call c .segments)) (settled-done r k out)
-      (did (answerIn n c call) (reckon call c .segments) (asks n c h o))
+  pub cuts : (p : Span) → r ≡ Cut p → (u : SegmentChanged) → CutsOut remapper p u → OnSegments call remapper u
+  cuts p e u f = λ n c h o. did-cut remapper _ _ r (asks n c h o) p e u f
+
+  pub settles : (u : SegmentChanged) → ((a : Answer) (ss : List Segment) → Decides remapper a ss r → Does remapper a ss u) → OnSegments call remapper u
+  settles u did = λ n c h o. did (answerIn n c call) (reckon call c .segments) (asks n c h o)
+
+  -- the change can be made
+  module _ (o : onSegments call ≡ true) (h : IsHeld remapper) where
+    pub ready : (a : Answer) × (ss : List Segment) × Decides remapper a ss r
+    ready = (answerIn 0 (holding (h .0)) call, reckon call (holding (h .0)) .segments, asks 0 (holding (h .0)) (h .1) o)
+
+    pub ready-put : (s : Segment) → r ≡ Put s → Good s × ((ss : List Segment) × Holds remapper ss × (true ≡ false → length ss < 64))
+    ready-put s e = let w = as-put remapper _ _ r (ready .2) s e in (w .good, (w .before, w .held, λ n. absurd (true≢false n)))
+
+    pub ready-cut : (p : Span) → r ≡ Cut p → inRange p × IsHeld remapper
+    ready-cut p e = (as-cut remapper _ _ r (ready .2) p e .range, h)
+
+-- a refused call leaves the remapper that went in
+pub refused-same : (call : Call) (remapper : Remapper) (u : SegmentChanged) → OnSegments call remapper u → (w : Refusal) → u .answer ≡ Refused w
+    → OnSegments call remapper (record { answer = u .answer; remapper = remapper })
+refused-same call remapper u on w e = λ n c h o.
+    (let d = on n c h o in
+    let f : accepted (answerIn n c call) ≡ false = ap accepted (sym (d .answer) ∙ e) in
+    record { answer = d .answer; after = λ k. absurd (true≢false (sym k ∙ f)); kept = λ k. refl })
 
 module _ (words nx links gens : List ℕ) (t : Tables) (calls : List Call) (g : Grown words nx links gens t calls)
     (call : Call) (k : ℕ) (ek : k ≡ compartmentOf call) (lk : k < 8) where
@@ -87,8 +110,3 @@ module _ (words nx links gens : List ℕ) (t : Tables) (calls : List Call) (g : 
               sameTables = λ i. record { arena = t .arena; trackers = t .trackers; remappers = e i };
             });
       })
-
-  -- where it changes nothing
-  pub segments-same : (d : Remapper) (x : Answer) → onSegments call ≡ true → OnSegments call (getD (t .remappers) k d) (record { answer = x; remapper = getD (t .remappers) k d })
-      → Answers calls call words nx links gens t words nx links gens (record { tables = t; answer = x })
-  segments-same d x s on = rw (set-getD (t .remappers) k d) at (segments-answers d (record { answer = x; remapper = getD (t .remappers) k d }) s on)

@@ -21,7 +21,8 @@ use Rattle.capability_engine.specs.PoolChain.{storedAt}
 use Rattle.capability_engine.specs.PoolOwn.{heap}
 use Rattle.capability_engine.specs.RegionAsks.{Tracked}
 use Rattle.capability_engine.specs.RemapHeld.{Holds}
-use Rattle.capability_engine.specs.RemapAnswers.{Changed, Does}
+use Rattle.capability_engine.specs.declared.remapper.Changed.{Changed}
+use Rattle.capability_engine.specs.RemapAnswers.{Does}
 use Rattle.capability_engine.specs.RemapListing.{Copied}
 use Rattle.capability_engine.specs.StreamCursor.{Whole, Table}
 use Rattle.capability_engine.specs.CompartmentGrown.{Trackers, trackersOf, Remapped, Grown}

@@ -34,6 +34,7 @@ pub mod RemapParts
 pub mod RemapWalks
 pub mod RemapCalls
 pub mod RemapGuests
+pub mod RemapCuts
 pub mod RemapCopies
 pub mod CompartmentLaws
 pub mod CompartmentArms

@@ -2,15 +2,13 @@
 use Prim.Native.Nat.{ℕ, _+_, _-_, _*_, _/_, _^_, _<_, _≤_}
 use mathlib.Core.Path.{_≡_, refl, sym, ap, _∙_, subst}
 use mathlib.Core.List.{List, [], _∷_}
-use mathlib.Core.Bool.{Bool, true, false, not, _&&_, _||_, true≢false}
+use mathlib.Core.Bool.{Bool, true, false, not, cond, _&&_, _||_, true≢false}
 use native.Mathlib.Omega.{arith}
 use native.Mathlib.Nat.{le-div-iff-mul-le, div-lt-iff-lt-mul}
 use lib.ListN.{length}
-use types.Run.{OneOf, miss}
-use denote.Enum.Declared.{tagOf}
 use borrow.Author.Tests.{lt-ltb, le-ltb, le-leb, lt-leb, leb-true, leb-false, ltb-true}
 use Rattle.definitions.specs.Tests.{_<?_, _≤?_, if_then_else_, bit, fits, hostUp, guestUp, all, any}
-use Rattle.definitions.specs.Segments.{segment, hostEnd, place, inOrder, hitsAny, overlaps, isIdentity, mapped, front, rest, hostInside, hostWhole, hostTail, hostCut, unmapped}
+use Rattle.definitions.specs.Segments.{segment, hostEnd, spanEnd, place, inOrder, hits, hitsAny, overlaps, isIdentity, mapped, front, rest, hostInside, hostWhole, hostTail, hostCut, unmapped}
 use Rattle.definitions.specs.Reckoning.{Compartment}
 use Rattle.definitions.specs.Values.{nothing}
 use Rattle.definitions.specs.Questions.{ask, accepted, valueOf, frontCut, onOverlaps, onMap, onUnmap}
@@ -26,16 +24,17 @@ use Rattle.definitions.specs.declared.answer.Answer.the-variants.{Accepted, Ref
 use Rattle.capability_engine.specs.declared.remapper.Remapper.{Remapper}
 use Rattle.capability_engine.specs.declared.remapper.Asked.{Asked}
 use Rattle.capability_engine.specs.declared.remapper.Change.{Change}
-use Rattle.capability_engine.specs.declared.remapper.Change.the-variants.{Keep, Put, Cut, Split}
+use Rattle.capability_engine.specs.declared.remapper.Change.the-variants.{Keep, Put, Cut}
+use Rattle.capability_engine.specs.declared.remapper.Changed.{Changed}
 use Rattle.capability_engine.specs.declared.remapper.Span.{Span}
 use Rattle.capability_engine.specs.declared.remapper.Span.the-variants.{Host}
 use Rattle.capability_engine.specs.declared.remapper.Left.the-variants.{Gone, Kept, Two}
 use Rattle.capability_engine.specs.RemapHeld.{Holds}
 use Rattle.capability_engine.specs.RemapAsking.{leftOf, okFor, askHost, askStep, askAll, nothingAsked, walked, isTwo, Trimmable}
-use Rattle.capability_engine.specs.RemapAnswers.{Does, Puts, Cuts, Splits, Decides, done, settled, canMap, canUnmap}
-use Rattle.capability_engine.proofs.remapper.Change.{the-type}
+use Rattle.capability_engine.specs.RemapAnswers.{Does, ToPut, ToCut, Decides, done, onInsert, inserted, Inserts, onHost, CutsOut, canMap, canUnmap}
 use Rattle.capability_engine.proofs.RemapLaws.{length-segs}
 use Rattle.capability_engine.proofs.RemapParts.{both, not-so}
+use Rattle.capability_engine.proofs.RemapWalks.{Meets, segment-at, next-of, meets-start, meets-end, meets-stop, meets-on}
 
 -- ---- questions in order
 
@@ -173,14 +172,6 @@ module _ (h : HostAddr) (g : GuestAddr) (n t : ℕ) where
           guest = ltb-true (g .0 + n * t) (2 ^ 64) (spans .1);
         }
 
-    pub map-sum : g .0 + n * t < 2 ^ 64
-    unfolding segment
-    map-sum = map-good .guest
-
-    pub map-product : n * t < 2 ^ 64
-    unfolding segment
-    map-product = map-good .product
-
 -- what is asked behind the questions that need no walk
 abbrev mapThen : Compartment → HostAddr → GuestAddr → ℕ → ℕ → Answer
 mapThen c h g n t =
@@ -192,46 +183,81 @@ module _ (self : Remapper) (c : Compartment) (hold : Holds self (c .segments)) (
   unfolding onMap canMap ask
   map-first w q = refuses self _ _ x w q (ask-no (mapAsks h g n t) (mapThen c h g n t) w (sym e ∙ q))
 
-  module _ (v : ℕ) (q : x ≡ Accepted v) (y : Answer) (k : ℕ) (d : y ≡ onOverlaps c g (n * t)) (f : k ≡ valueOf y) where
-    goes : onMap c h g n t ≡ mapThen c h g n t
-    unfolding onMap ask
-    goes = ask-on (mapAsks h g n t) (mapThen c h g n t) (yes-map h g n t x e v q)
+  -- the rest is asked of the segment
+  pub map-puts : (v : ℕ) → x ≡ Accepted v → (s : Segment) → s ≡ segment h g n t → ToPut self (onMap c h g n t) (mapped h g n t (c .segments)) s
+  unfolding onMap ask segment
+  map-puts v q s es = rw es (record {
+    good = map-good h g n t x e v q;
+    before = c .segments;
+    held = hold;
+    asks = sym (ask-on (mapAsks h g n t) (mapThen c h g n t) (yes-map h g n t x e v q));
+    leaves = refl;
+  })
 
-    value : k ≡ bit (overlaps g (n * t) (c .segments))
-    value = overlap-value c g (n * t) y k (map-sum h g n t x e v q) d f
+-- ---- a segment is put in its place
 
-    pub map-aliased : k ≡ 1 → Does self (onMap c h g n t) (mapped h g n t (c .segments)) (record { answer = Refused AlreadyAliased; remapper = self })
-    unfolding ask
-    map-aliased z =
-        let b : overlaps g (n * t) (c .segments) ≡ true = bit-yes _ (sym z ∙ value) in
-        refuses self _ _ _ AlreadyAliased refl (goes ∙ simp b)
+-- where the walk stands that asks a new one, and what is known once it has ended
+pub record Aliases (r : Remapper) (a e : GuestAddr) (new : Bool) (at : ℕ) (ss : List Segment) : Type 0 where
+  pub asks : at < 64 → (new ≡ true) × Meets r a e at ss
+  pub apart : 64 ≤ at → new ≡ true → hitsAny a e ss ≡ false
 
-    module _ (z : k ≡ 1 → ⊥) where
-      apart : overlaps g (n * t) (c .segments) ≡ false
-      apart = bit-no _ (λ o. z (value ∙ o))
+aliases-at : (r : Remapper) (a e : GuestAddr) (at : ℕ) (ss : List Segment) → Meets r a e at ss → Aliases r a e true at ss
+aliases-at r a e at ss m = record { asks = λ l. (refl, m); apart = λ l n. sym (meets-end r a e at ss m l) }
 
-      pub map-same : isIdentity h g t ≡ true → Does self (onMap c h g n t) (mapped h g n t (c .segments)) (record { answer = Accepted 0; remapper = self })
-      unfolding ask mapped
-      map-same i = accepts self _ _ self (goes ∙ simp (apart, i)) (simp i hold)
+pub aliases-start : (r : Remapper) (a e : GuestAddr) (ss : List Segment) → Holds r ss → (new : Bool) (at : ℕ) → at ≡ cond new (r .head) 64
+    → Aliases r a e new at ss
+aliases-start r a e ss h true at q = rw q (aliases-at r a e (r .head) ss (meets-start r a e ss h))
+aliases-start r a e ss h false at q = record { asks = λ l. absurd (omega arith); apart = λ l n. absurd (true≢false (sym n)) }
 
-      module _ (i : isIdentity h g t ≡ false) where
-        pub map-full : 64 ≤ self .list .count → Does self (onMap c h g n t) (mapped h g n t (c .segments)) (record { answer = Refused NoSlot; remapper = self })
-        unfolding ask
-        map-full l =
-            let o : (length (c .segments) <? 64) ≡ false = le-ltb (length (c .segments)) 64 (omega (arith, used self (c .segments) hold)) in
-            refuses self _ _ _ NoSlot refl (goes ∙ simp (apart, i, o))
+module _ (r : Remapper) (a e : GuestAddr) (new : Bool) (at : ℕ) (ss : List Segment) (w : Aliases r a e new at ss) (l : at < 64) (h : hits a e (segment-at r at) ≡ false) where
+  pub aliases-stop : e .0 < segment-at r at .gpa .0 → Aliases r a e new 64 ss
+  aliases-stop g = record { asks = λ q. absurd (omega arith); apart = λ q n. sym (meets-stop r a e at ss (w .asks l .1) l h g) }
 
-        pub map-puts : self .list .count < 64 → (s : Segment) → s ≡ segment h g n t → Puts self (onMap c h g n t) (mapped h g n t (c .segments)) s
-        unfolding ask mapped
-        map-puts l s es =
-            let o : (length (c .segments) <? 64) ≡ true = lt-ltb (length (c .segments)) 64 (omega (arith, used self (c .segments) hold)) in
-            rw es (record {
-              good = map-good h g n t x e v q;
-              before = c .segments;
-              held = hold;
-              room = omega (arith, used self (c .segments) hold);
-              does = λ out m. accepts self _ _ out (goes ∙ simp (apart, i, o)) (simp i m);
-            })
+  pub aliases-on : segment-at r at .gpa .0 ≤ e .0 → Aliases r a e new (next-of r at) ss
+  aliases-on g = rw (w .asks l .0) (aliases-at r a e (next-of r at) ss (meets-on r a e at ss (w .asks l .1) l h g))
+
+module _ (self : Remapper) (s : Segment) (new : Bool) (ss : List Segment) (hold : Holds self ss) (z : ℕ) (ez : z ≡ spanEnd s .0) where
+  same-end : overlaps (s .gpa) (s .size * s .repeat) ss ≡ hitsAny (s .gpa) (record { 0 = z }) ss
+  unfolding overlaps spanEnd guestUp
+  same-end = rw ez
+
+  pub insert-aliased : new ≡ true → true ≡ hitsAny (s .gpa) (record { 0 = z }) ss
+      → Does self (onInsert new s ss) (inserted new s ss) (record { answer = Refused AlreadyAliased; remapper = self })
+  unfolding ask
+  insert-aliased n h = rw n (refuses self _ _ _ AlreadyAliased refl (simp (same-end ∙ sym h)))
+
+  module _ (off : new ≡ true → hitsAny (s .gpa) (record { 0 = z }) ss ≡ false) (i : Bool) (ei : i ≡ isIdentity (s .hpa) (s .gpa) (s .repeat)) where
+    pub insert-same : (new && i) ≡ true → Does self (onInsert new s ss) (inserted new s ss) (record { answer = Accepted 0; remapper = self })
+    unfolding ask mapped
+    insert-same q = let w = both new i q in rw (w .0) (accepts self _ _ self (simp (same-end ∙ off (w .0), sym ei ∙ w .1)) (simp (sym ei ∙ w .1) hold))
+
+    module _ (q : (new && i) ≡ false) (f : Bool) (ef : f ≡ (new && (64 ≤? self .list .count))) where
+      pub insert-full : f ≡ true → Does self (onInsert new s ss) (inserted new s ss) (record { answer = Refused NoSlot; remapper = self })
+      unfolding ask
+      insert-full y =
+          let w = both new (64 ≤? self .list .count) (sym ef ∙ y) in
+          let m : isIdentity (s .hpa) (s .gpa) (s .repeat) ≡ false = sym ei ∙ rw (w .0) at q in
+          let o : (length ss <? 64) ≡ false = le-ltb (length ss) 64 (omega (arith, used self ss hold, leb-true 64 (self .list .count) (w .1))) in
+          rw (w .0) (refuses self _ _ _ NoSlot refl (simp (same-end ∙ off (w .0), m, o)))
+
+      pub insert-room : (new ≡ false → length ss < 64) → f ≡ false → length ss < 64
+      insert-room r y = go new refl
+        where
+          go : (b : Bool) → new ≡ b → length ss < 64
+          go true n = omega (arith, used self ss hold, leb-false 64 (self .list .count) (rw n at (sym ef ∙ y)))
+          go false n = r n
+
+      pub insert-puts : (new ≡ false → length ss < 64) → f ≡ false → (out : Remapper) → Holds out (place s ss)
+          → Does self (onInsert new s ss) (inserted new s ss) (record { answer = Accepted 0; remapper = out })
+      unfolding ask mapped segment
+      insert-puts r y out h = go new refl
+        where
+          go : (b : Bool) → new ≡ b → Does self (onInsert b s ss) (inserted b s ss) (record { answer = Accepted 0; remapper = out })
+          go true n =
+              let m : isIdentity (s .hpa) (s .gpa) (s .repeat) ≡ false = sym ei ∙ rw n at q in
+              let o : (length ss <? 64) ≡ true = lt-ltb (length ss) 64 (insert-room r y) in
+              accepts self _ _ out (simp (same-end ∙ off n, m, o)) (simp m h)
+          go false n = accepts self _ _ out refl h
 
 -- ---- unmap_range
 
@@ -328,74 +354,74 @@ pub where-so : (b t : Bool) → (not b || t) ≡ true → b ≡ true → t ≡ t
 where-so true t h d = h
 where-so false t h d = absurd (true≢false (sym d))
 
-abbrev unmapAsks : List Segment → HostAddr → HostAddr → List (Bool × Refusal)
-unmapAsks ss a e = (not (any (hostInside a e) ss) || (length ss <? 64), NoSlot) ∷ (not (any (frontCut a e) ss), FrontCut) ∷ []
+abbrev hostAsks : List Segment → HostAddr → HostAddr → List (Bool × Refusal)
+hostAsks ss a e = (not (any (hostInside a e) ss) || (length ss <? 64), NoSlot) ∷ (not (any (frontCut a e) ss), FrontCut) ∷ []
 
-abbrev unmapThen : Compartment → HostAddr → ℕ → Answer
-unmapThen c h n = ask ((inOrder (unmapped h n (c .segments)), OutOfOrder) ∷ []) (Accepted 0)
+abbrev hostThen : List Segment → HostAddr → HostAddr → Answer
+hostThen ss a e = ask ((inOrder (hostCut a e ss), OutOfOrder) ∷ []) (Accepted 0)
+
+module _ (self : Remapper) (ss : List Segment) (hold : Holds self ss) (a e : HostAddr) (k : Asked) (w : k ≡ askAll (Host a e) nothingAsked ss) (x : Answer) (q : x ≡ canUnmap k (self .list .count)) where
+  same : x ≡ ask (hostAsks ss a e) (Accepted 0)
+  unfolding canUnmap
+  same =
+      let s : k .split ≡ any (hostInside a e) ss = ap (λ v. v .split) w ∙ host-splits a e nothingAsked ss in
+      let b : k .bad ≡ any (frontCut a e) ss = ap (λ v. v .bad) w ∙ host-bads a e nothingAsked ss in
+      q ∙ rw (s, b, used self ss hold)
+
+  goes : onHost ss a e ≡ ask (hostAsks ss a e) (hostThen ss a e)
+  unfolding onHost ask
+  goes = refl
+
+  pub host-first : (z : Refusal) → x ≡ Refused z → Does self (onHost ss a e) (hostCut a e ss) (record { answer = x; remapper = self })
+  host-first z y = refuses self _ _ x z y (goes ∙ ask-no (hostAsks ss a e) (hostThen ss a e) z (sym same ∙ y))
+
+  module _ (v : ℕ) (y : x ≡ Accepted v) where
+    yes-host : accepted (ask (hostAsks ss a e) (Accepted 0)) ≡ true
+    yes-host = ap accepted (sym same ∙ y)
+
+    then-host : onHost ss a e ≡ hostThen ss a e
+    then-host = goes ∙ ask-on (hostAsks ss a e) (hostThen ss a e) yes-host
+
+    pub host-trimmable : Trimmable (Host a e) ss
+    host-trimmable =
+        let p = passed (hostAsks ss a e) (Accepted 0) yes-host .0 in
+        record {
+          ok = all-host a e ss;
+          room = λ t.
+              ltb-true (length ss) 64 (where-so (any (hostInside a e) ss) (length ss <? 64) (p .0) (sym (two-host a e ss) ∙ t));
+        }
+
+    -- question 13 does not refuse
+    pub host-clean : k .bad ≡ false
+    host-clean =
+        ap (λ v. v .bad) w ∙ host-bads a e nothingAsked ss
+        ∙ not-so (any (frontCut a e) ss) (passed (hostAsks ss a e) (Accepted 0) yes-host .0 .1 .0)
+
+    pub host-order : false ≡ inOrder (walked (Host a e) ss) → Does self (onHost ss a e) (hostCut a e ss) (record { answer = Refused OutOfOrder; remapper = self })
+    unfolding ask
+    host-order d = refuses self _ _ _ OutOfOrder refl (then-host ∙ rw (← walked-host a e ss, ← d))
+
+    pub host-cuts : true ≡ inOrder (walked (Host a e) ss) → (out : Remapper) → Holds out (walked (Host a e) ss)
+        → Does self (onHost ss a e) (hostCut a e ss) (done out)
+    unfolding ask
+    host-cuts d out m =
+        accepts self _ _ out (then-host ∙ rw (← walked-host a e ss, ← d)) (rw (← walked-host a e ss) m)
 
 module _ (self : Remapper) (c : Compartment) (hold : Holds self (c .segments)) (h : HostAddr) (n : ℕ) where
   pub unmap-large : 2 ^ 64 ≤ h .0 + n → Does self (onUnmap c h n) (unmapped h n (c .segments)) (record { answer = Refused Overflow; remapper = self })
   unfolding onUnmap ask
   unmap-large a = refuses self _ _ _ Overflow refl (rw (fits-no (h .0 + n) a))
 
-  module _ (a : h .0 + n < 2 ^ 64) (k : Asked) (w : k ≡ askAll (Host h (hostUp h n)) nothingAsked (c .segments)) (x : Answer) (e : x ≡ canUnmap k (self .list .count)) where
-    same : x ≡ ask (unmapAsks (c .segments) h (hostUp h n)) (Accepted 0)
-    unfolding canUnmap
-    same =
-        let s : k .split ≡ any (hostInside h (hostUp h n)) (c .segments) = ap (λ v. v .split) w ∙ host-splits h (hostUp h n) nothingAsked (c .segments) in
-        let b : k .bad ≡ any (frontCut h (hostUp h n)) (c .segments) = ap (λ v. v .bad) w ∙ host-bads h (hostUp h n) nothingAsked (c .segments) in
-        e ∙ rw (s, b, used self (c .segments) hold)
-
-    goes-unmap : onUnmap c h n ≡ ask (unmapAsks (c .segments) h (hostUp h n)) (unmapThen c h n)
-    unfolding onUnmap ask
-    goes-unmap = rw (fits-yes (h .0 + n) a)
-
-    pub unmap-first : (z : Refusal) → x ≡ Refused z → Does self (onUnmap c h n) (unmapped h n (c .segments)) (record { answer = x; remapper = self })
-    unmap-first z q =
-        refuses self _ _ x z q (goes-unmap ∙ ask-no (unmapAsks (c .segments) h (hostUp h n)) (unmapThen c h n) z (sym same ∙ q))
-
-    module _ (v : ℕ) (q : x ≡ Accepted v) where
-      yes-unmap : accepted (ask (unmapAsks (c .segments) h (hostUp h n)) (Accepted 0)) ≡ true
-      yes-unmap = ap accepted (sym same ∙ q)
-
-      then-unmap : onUnmap c h n ≡ unmapThen c h n
-      then-unmap = goes-unmap ∙ ask-on (unmapAsks (c .segments) h (hostUp h n)) (unmapThen c h n) yes-unmap
-
-      pub unmap-trimmable : Trimmable (Host h (hostUp h n)) (c .segments)
-      unmap-trimmable =
-          let p = passed (unmapAsks (c .segments) h (hostUp h n)) (Accepted 0) yes-unmap .0 in
-          record {
-            ok = all-host h (hostUp h n) (c .segments);
-            room = λ t.
-                ltb-true (length (c .segments)) 64
-                (where-so (any (hostInside h (hostUp h n)) (c .segments)) (length (c .segments) <? 64) (p .0) (sym (two-host h (hostUp h n) (c .segments)) ∙ t));
-          }
-
-      -- question 13 does not refuse
-      pub unmap-clean : k .bad ≡ false
-      unmap-clean =
-          ap (λ v. v .bad) w ∙ host-bads h (hostUp h n) nothingAsked (c .segments)
-          ∙ not-so (any (frontCut h (hostUp h n)) (c .segments)) (passed (unmapAsks (c .segments) h (hostUp h n)) (Accepted 0) yes-unmap .0 .1 .0)
-
-      pub unmap-order : false ≡ inOrder (walked (Host h (hostUp h n)) (c .segments))
-          → Does self (onUnmap c h n) (unmapped h n (c .segments)) (record { answer = Refused OutOfOrder; remapper = self })
-      unfolding ask unmapped
-      unmap-order d = refuses self _ _ _ OutOfOrder refl (then-unmap ∙ rw (← walked-host h (hostUp h n) (c .segments), ← d))
-
-      pub unmap-cuts : true ≡ inOrder (walked (Host h (hostUp h n)) (c .segments))
-          → Cuts self (onUnmap c h n) (unmapped h n (c .segments)) (Host h (hostUp h n))
-      unfolding ask unmapped hostUp
-      unmap-cuts d =
-          record {
-            range = omega arith;
-            before = c .segments;
-            held = hold;
-            ok = unmap-trimmable;
-            does = λ out m.
-                accepts self _ _ out (then-unmap ∙ rw (← walked-host h (hostUp h n) (c .segments), ← d))
-                (rw (← walked-host h (hostUp h n) (c .segments)) m);
-          }
+  -- the rest is asked of the range
+  pub unmap-cuts : h .0 + n < 2 ^ 64 → ToCut self (onUnmap c h n) (unmapped h n (c .segments)) (Host h (hostUp h n))
+  unfolding onUnmap onHost ask unmapped hostUp
+  unmap-cuts a = record {
+    range = omega arith;
+    before = c .segments;
+    held = hold;
+    asks = rw (fits-yes (h .0 + n) a);
+    leaves = refl;
+  }
 
 -- a compartment that has this list
 abbrev pub holding : List Segment → Compartment
@@ -404,41 +430,18 @@ holding ss = record { values = λ x. nothing; segments = ss }
 -- ---- a change that a call came to
 
 module _ (self : Remapper) (a : Answer) (ss : List Segment) (r : Change) (d : Decides self a ss r) where
-  pub as-put : (s : Segment) → r ≡ Put s → Puts self a ss s
+  pub as-put : (s : Segment) → r ≡ Put s → ToPut self a ss s
   as-put s e = subst (Decides self a ss) e d
 
-  pub as-cut : (p : Span) → r ≡ Cut p → Cuts self a ss p
+  pub as-cut : (p : Span) → r ≡ Cut p → ToCut self a ss p
   as-cut p e = subst (Decides self a ss) e d
 
-  pub as-split : (p : Span) (h : Segment) → r ≡ Split p h → Splits self a ss p h
-  as-split p h e = subst (Decides self a ss) e d
+  pub did-put : (s : Segment) → r ≡ Put s → (u : Changed) → Inserts self s true u → Does self a ss u
+  did-put s e u f =
+      let w = as-put s e in rw (w .asks, w .leaves) at (f (w .before) (w .held) (λ n. absurd (true≢false n)))
 
-  pub did-put : (s : Segment) → r ≡ Put s → (out : Remapper) → ((ts : List Segment) → Holds self ts → length ts < 64 → Holds out (place s ts))
-      → Does self a ss (settled r out)
-  did-put s e out f =
-      let w = as-put s e in
-      subst (λ (q : Change). Does self a ss (settled q out)) (sym e) (w .does out (f (w .before) (w .held) (w .room)))
+  pub did-cut : (p : Span) → r ≡ Cut p → (u : Changed) → CutsOut self p u → Does self a ss u
+  did-cut p e u f = let w = as-cut p e in rw (w .asks, w .leaves) at (f (w .before) (w .held))
 
-  pub did-cut : (p : Span) → r ≡ Cut p → (out : Remapper) → ((ts : List Segment) → Holds self ts → Trimmable p ts → Holds out (walked p ts))
-      → Does self a ss (settled r out)
-  did-cut p e out f =
-      let w = as-cut p e in
-      subst (λ (q : Change). Does self a ss (settled q out)) (sym e) (w .does out (f (w .before) (w .held) (w .ok)))
-
-  pub did-split : (p : Span) (h : Segment) → r ≡ Split p h → (cut out : Remapper)
-      → ((ts : List Segment) → Holds self ts → Trimmable p ts → Holds cut (walked p ts))
-      → ((ts : List Segment) → Holds cut ts → length ts < 64 → Holds out (place h ts)) → Does self a ss (settled r out)
-  did-split p h e cut out f g =
-      let w = as-split p h e in
-      subst (λ (q : Change). Does self a ss (settled q out)) (sym e)
-      (w .does out (g (walked p (w .before)) (f (w .before) (w .held) (w .ok)) (w .room)))
-
-  pub did-keep : (x : Answer) → r ≡ Keep x → Does self a ss (settled r self)
-  did-keep x e = subst (λ (q : Change). Does self a ss (settled q self)) (sym e) (subst (Decides self a ss) e d)
-
--- every change but Keep is accepted with 0
-pub settled-done : (r : Change) → OneOf (1 ∷ 2 ∷ 3 ∷ []) (tagOf the-type r) → (out : Remapper) → settled r out ≡ done out
-settled-done (Put s) h out = refl
-settled-done (Cut p) h out = refl
-settled-done (Split p s) h out = refl
-settled-done (Keep x) h out = absurd (miss (1 ∷ 2 ∷ 3 ∷ []) 0 tt h)
+  pub did-keep : (x : Answer) → r ≡ Keep x → Does self a ss (record { remapper = self; answer = x })
+  did-keep x e = subst (Decides self a ss) e d

@@ -19,13 +19,12 @@ use Rattle.definitions.specs.declared.answer.Refusal.the-variants.{Overflow, No
 use Rattle.definitions.specs.declared.answer.Answer.{Answer}
 use Rattle.definitions.specs.declared.answer.Answer.the-variants.{Accepted, Refused}
 use Rattle.capability_engine.specs.declared.remapper.Remapper.{Remapper}
-use Rattle.capability_engine.specs.declared.remapper.Change.{Change}
 use Rattle.capability_engine.specs.declared.remapper.Asked.{Asked}
 use Rattle.capability_engine.specs.declared.remapper.Span.the-variants.{Guest}
 use Rattle.capability_engine.specs.declared.remapper.Left.the-variants.{Gone, Kept}
 use Rattle.capability_engine.specs.RemapHeld.{Holds}
-use Rattle.capability_engine.specs.RemapAsking.{leftOf, okGuest, okFor, repeats, halfOf, askGuest, askStep, askAll, nothingAsked, onward, walked, isTwo, Trimmable}
-use Rattle.capability_engine.specs.RemapAnswers.{Does, Cuts, Splits, Decides, onSpan, canStart, canUnmapGpa}
+use Rattle.capability_engine.specs.RemapAsking.{leftOf, okFor, repeats, halfOf, askGuest, askStep, askAll, nothingAsked, onward, walked, isTwo, Trimmable}
+use Rattle.capability_engine.specs.RemapAnswers.{Does, ToCut, done, onSpan, canStart, canUnmapGpa}
 use Rattle.capability_engine.proofs.RemapParts.{both, or-false, not-so, not-repeated, half-small}
 use Rattle.capability_engine.proofs.RemapWalks.{some-start, some-end, some-open}
 use Rattle.capability_engine.proofs.RemapCalls.{ask-on, ask-no, refuses, accepts, fits-yes, fits-no, used, or-none, or-assoc, not-both, not-one, where-so}
@@ -115,7 +114,7 @@ module _ (a e : GuestAddr) where
       let o = or-false (repeats a e s) (any (repeats a e) ss) h in
       rw (not-repeated a e s (o .0)) (span-ok ss (o .1))
 
-  two-span : (ss : List Segment) → any (λ s. isTwo (leftOf (Guest a e) s)) ss ≡ false
+  pub two-span : (ss : List Segment) → any (λ s. isTwo (leftOf (Guest a e) s)) ss ≡ false
   unfolding leftOf
   two-span [] = refl
   two-span (s ∷ ss) = rw (go (spanEnd s .0 ≤? a .0) (e .0 ≤? s .gpa .0) (s .gpa .0 <? a .0) (spanEnd s .0 ≤? e .0)) (two-span ss)
@@ -382,35 +381,23 @@ module _ (self : Remapper) (ss : List Segment) (hold : Holds self ss) (a e : Gue
       unfolding spanCut placeAll
       placed = rw (halves .0) (rw (← walked-span a e ss, ap (λ v. v .half) w))
 
-      pub span-splits-in : true ≡ inOrder (walked (Guest a e) ss) → (h : Segment) → h ≡ k .half → Splits self (onSpan ss a e) (spanCut a e ss) (Guest a e) h
+      pub span-splits-in : true ≡ inOrder (walked (Guest a e) ss) → (out : Remapper) → Holds out (place (k .half) (walked (Guest a e) ss))
+          → Does self (onSpan ss a e) (spanCut a e ss) (done out)
       unfolding ask
-      span-splits-in o h eh =
+      span-splits-in o out m =
           let d : inOrder (spanCut a e ss) ≡ true = ap inOrder placed ∙ place-same (k .half) (walked (Guest a e) ss) ∙ sym o in
-          rw eh (record {
-            range = l;
-            before = ss;
-            held = hold;
-            ok = cut-trimmable;
-            good = half-good;
-            room = cut-room;
-            does = λ out m. accepts self _ _ out (then-span ∙ rw d) (rw placed m);
-          })
+          accepts self _ _ out (then-span ∙ rw d) (rw placed m)
 
     order : (b : Bool) → k .split ≡ b → inOrder (spanCut a e ss) ≡ inOrder (walked (Guest a e) ss)
     order true c = ap inOrder (placed c) ∙ place-same (k .half) (walked (Guest a e) ss)
     order false c = ap inOrder (whole c)
 
-    pub span-cuts : k .split ≡ false → true ≡ inOrder (walked (Guest a e) ss) → Cuts self (onSpan ss a e) (spanCut a e ss) (Guest a e)
+    pub span-cuts : k .split ≡ false → true ≡ inOrder (walked (Guest a e) ss) → (out : Remapper) → Holds out (walked (Guest a e) ss)
+        → Does self (onSpan ss a e) (spanCut a e ss) (done out)
     unfolding ask
-    span-cuts c o =
+    span-cuts c o out m =
         let d : inOrder (spanCut a e ss) ≡ true = order false c ∙ sym o in
-        record {
-          range = l;
-          before = ss;
-          held = hold;
-          ok = cut-trimmable;
-          does = λ out m. accepts self _ _ out (then-span ∙ rw d) (rw (whole c) m);
-        }
+        accepts self _ _ out (then-span ∙ rw d) (rw (whole c) m)
 
     pub span-order : false ≡ inOrder (walked (Guest a e) ss)
         → Does self (onSpan ss a e) (spanCut a e ss) (record { answer = Refused OutOfOrder; remapper = self })
@@ -518,9 +505,15 @@ module _ (self : Remapper) (c : Compartment) (hold : Holds self (c .segments)) (
   gpa-fits z = going z .fit
 
   -- or the questions from 15 on are the rest
-  pub gpa-then : v ≡ 1 → (r : Change) → Decides self (onSpan (c .segments) g (guestUp g n)) (spanCut g (guestUp g n) (c .segments)) r
-      → Decides self (onUnmapGpa c g n) (unmappedGpa g n (c .segments)) r
-  gpa-then z r d =
+  pub gpa-cuts : v ≡ 1 → ToCut self (onUnmapGpa c g n) (unmappedGpa g n (c .segments)) (Guest g (guestUp g n))
+  unfolding guestUp
+  gpa-cuts z =
       let t = going z .asks in
       let u : unmappedGpa g n (c .segments) ≡ spanCut g (guestUp g n) (c .segments) = left g n (c .segments) (or-false (length (c .segments) =? 0) (n =? 0) t .1) in
-      rw (gpa-is c g n t (going z .fit) u, u) d
+      record {
+        range = omega arith;
+        before = c .segments;
+        held = hold;
+        asks = sym (gpa-is c g n t (going z .fit) u);
+        leaves = sym u;
+      }

@@ -18,7 +18,7 @@ use Rattle.capability_engine.specs.declared.remapper.Order.{Order}
 use Rattle.capability_engine.specs.declared.remapper.Left.{Left}
 use Rattle.capability_engine.specs.declared.remapper.Left.the-variants.{Gone, Kept, Two}
 use Rattle.capability_engine.specs.RemapHeld.{noSegment, Holds, Zip, ahead}
-use Rattle.capability_engine.specs.RemapAsking.{leftOf, okFor, askStep, askAll, nothingAsked, onward, walked, isTwo, Trimmable, orderAt, orderLeft, orderStep}
+use Rattle.capability_engine.specs.RemapAsking.{leftOf, okFor, askStep, askAll, nothingAsked, onward, walked, isTwo, Trimmable, orderAt, orderStep, unordered}
 use Rattle.capability_engine.specs.RemapListing.{Some}
 use Rattle.capability_engine.proofs.RemapParts.{both, bad-step}
 use Rattle.capability_engine.proofs.RemapPlaces.{zip-small, zip-start, zip-ahead, zip-end, zip-open, zip-holds, zip-skip}
@@ -28,6 +28,11 @@ segment-at r at = getD (r .segments) at noSegment
 
 abbrev pub next-of : Remapper → ℕ → ℕ
 next-of r at = getD (r .links) at 0
+
+-- nothing lies ahead of none
+ahead-none : (links : List ℕ) → ahead links 64 ≡ 0
+unfolding ahead
+ahead-none links = refl
 
 -- ---- a walk that only reads: ts is left from slot at on
 
@@ -64,6 +69,10 @@ module _ (r : Remapper) (at : ℕ) (ts : List Segment) (w : Some r at ts) where
         zip-ahead r (o .on .prev) (next-of r at) (o .on .done) (o .more) (o .on .zip),
         ap length (o .are),
       )
+
+  pub some-last : at < 64 → ahead (r .links) 64 < ahead (r .links) at
+  some-last l =
+      omega (arith, ahead-none (r .links), zip-ahead r (w .prev) at (w .done) ts (w .zip), ap length (some-open l .are))
 
 -- ---- does one hit?
 
@@ -185,9 +194,6 @@ still-step p o s ts = go (o .two) refl (leftOf p s) refl
         (and-assoc (o .sorted && (o .last ≤? t .hpa .0)) (t .hpa .0 ≤? u .hpa .0) (sortedFrom (u .hpa .0) ts)
         ∙ and-assoc (o .sorted) (o .last ≤? t .hpa .0) ((t .hpa .0 ≤? u .hpa .0) && sortedFrom (u .hpa .0) ts))
 
-abbrev pub unordered : Order
-unordered = record { last = 0; sorted = true; two = false }
-
 abbrev pub Orders : Remapper → Span → Asked → Order → ℕ → List Segment → Type 0
 Orders r p k o at ss = (ts : List Segment) × Some r at ts × (k .bad ≡ false → still p o ts ≡ inOrder (walked p ss))
 
@@ -213,11 +219,6 @@ module _ (r : Remapper) (p : Span) (k : Asked) (o : Order) (at : ℕ) (ss : List
             let g : o2 ≡ orderStep p false o (segment-at r at) = f ∙ ap (λ q. orderStep p q o (segment-at r at)) b in
             ap (λ q. still p q (v .more)) g ∙ still-step p o (segment-at r at) (v .more) ∙ sym (ap (still p o) (v .are)) ∙ w .2 c),
       )
-
--- nothing lies ahead of none
-ahead-none : (links : List ℕ) → ahead links 64 ≡ 0
-unfolding ahead
-ahead-none links = refl
 
 -- ---- where a new one goes
 
@@ -296,10 +297,7 @@ module _ (r : Remapper) (s : Segment) (prev at on : ℕ) (ss : List Segment) (w 
   seeks-less = puts-less r s prev on ss spot l
 
   pub seeks-last : ahead (r .links) 64 < ahead (r .links) on
-  seeks-last =
-      let p = spot in
-      let o = zip-open r prev on (p .done) (p .left) (p .zip) l in
-      omega (arith, ahead-none (r .links), zip-ahead r prev on (p .done) (p .left) (p .zip), ap length (o .1))
+  seeks-last = let p = spot in some-last r on (p .left) (record { prev = prev; done = p .done; zip = p .zip }) l
 
 -- ---- each becomes what a range leaves of it
 

@@ -24,7 +24,7 @@ use Rattle.lines.proofs.Written.{length-answer}
 use Rattle.capability_engine.specs.declared.region.RegionTracker.{RegionTracker}
 use Rattle.capability_engine.specs.declared.region.Changed.{Changed as RegionChanged}
 use Rattle.capability_engine.specs.declared.remapper.Remapper.{Remapper}
-use Rattle.capability_engine.specs.RemapAnswers.{Changed as SegmentChanged}
+use Rattle.capability_engine.specs.declared.remapper.Changed.{Changed as SegmentChanged}
 use Rattle.capability_engine.specs.declared.compartments.Tables.{Tables}
 use Rattle.capability_engine.specs.declared.script.Progress.{Progress}
 use Rattle.capability_engine.specs.declared.script.Script.{Script}

@@ -15,8 +15,9 @@ use Rattle.capability_engine.specs.declared.region.RegionTracker.{Region
 use Rattle.capability_engine.specs.declared.region.Changed.{Changed as RegionChanged}
 use Rattle.capability_engine.specs.declared.remapper.Remapper.{Remapper}
 use Rattle.capability_engine.specs.declared.remapper.Change.{Change}
+use Rattle.capability_engine.specs.declared.remapper.Changed.{Changed as SegmentChanged}
 use Rattle.capability_engine.specs.RemapHeld.{Holds}
-use Rattle.capability_engine.specs.RemapAnswers.{Changed as SegmentChanged, Does, Decides}
+use Rattle.capability_engine.specs.RemapAnswers.{Does, Decides}
 use Rattle.capability_engine.specs.CompartmentGrown.{Trackers, Pooled}
 
 -- the calls on regions, and those on segments that change them
@@ -73,7 +74,7 @@ OnRegions call tracker arena words next links gens words' next' links' gens' r =
     → t .arena ≡ arena → getD (t .list) (compartmentOf call) noTracker ≡ tracker
     → PoolAnswers calls call words next links gens t words' next' links' gens' (withTracker t (compartmentOf call) (r .tracker) (r .arena)) (r .answer)
 
--- what a call on segments does, and what its questions come to
+-- what a call on segments does, and what its first questions come to
 abbrev pub OnSegments : Call → Remapper → SegmentChanged → Type 0
 OnSegments call remapper r =
     (n : ℕ) (c : Compartment) → Holds remapper (c .segments) → onSegments call ≡ true

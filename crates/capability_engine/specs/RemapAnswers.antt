@@ -1,5 +1,5 @@
 -- What each call ensures: the definitions' answer, the list that they leave where it is accepted, and where it is refused
--- the very struct that went in. The questions come to a change, and the change does it.
+-- the very struct that went in. The first questions come to a change, and the change asks the rest and does it.
 use Prim.Native.Nat.{ℕ, _+_, _*_, _<_}
 use mathlib.Core.Path.{_≡_}
 use mathlib.Core.List.{List, [], _∷_}
@@ -7,27 +7,24 @@ use mathlib.Core.Bool.{Bool, true, false, not, _&&_, _||_}
 use lib.ListN.{length}
 use Rattle.definitions.specs.Tests.{_<?_, _≤?_, _=?_, if_then_else_, fits, all, any, keep}
 use Rattle.definitions.proofs.SegmentLaws.{Good}
-use Rattle.definitions.specs.Segments.{place, mapped, unmapped, touched, spanWhole, spanInside, spanCut, unmappedGpa, inOrder}
+use Rattle.definitions.specs.Segments.{overlaps, isIdentity, place, mapped, hostInside, hostCut, unmapped, touched, spanWhole, spanInside, spanCut, unmappedGpa, inOrder}
 use Rattle.definitions.specs.Reckoning.{Compartment}
-use Rattle.definitions.specs.Questions.{ask, accepted, onOverlaps, onMap, onUnmap, onUnmapGpa}
+use Rattle.definitions.specs.Questions.{ask, accepted, frontCut, onOverlaps, onMap, onUnmap, onUnmapGpa}
 use Rattle.definitions.specs.declared.addr.HostAddr.{HostAddr}
 use Rattle.definitions.specs.declared.addr.GuestAddr.{GuestAddr}
 use Rattle.definitions.specs.declared.remapper.Segment.{Segment}
-use Rattle.definitions.specs.declared.answer.Refusal.the-variants.{EmptySegment, Overflow, NoSlot, FrontCut, OutOfOrder, Repeated, OthersTouched}
+use Rattle.definitions.specs.declared.answer.Refusal.the-variants.{EmptySegment, Overflow, AlreadyAliased, NoSlot, FrontCut, OutOfOrder, Repeated, OthersTouched}
 use Rattle.definitions.specs.declared.answer.Answer.{Answer}
-use Rattle.definitions.specs.declared.answer.Answer.the-variants.{Accepted}
+use Rattle.definitions.specs.declared.answer.Answer.the-variants.{Accepted, Refused}
 use Rattle.capability_engine.specs.declared.remapper.Remapper.{Remapper}
 use Rattle.capability_engine.specs.declared.remapper.Span.{Span}
+use Rattle.capability_engine.specs.declared.remapper.Span.the-variants.{Host, Guest}
 use Rattle.capability_engine.specs.declared.remapper.Change.{Change}
-use Rattle.capability_engine.specs.declared.remapper.Change.the-variants.{Keep, Put, Cut, Split}
+use Rattle.capability_engine.specs.declared.remapper.Change.the-variants.{Keep, Put, Cut}
+use Rattle.capability_engine.specs.declared.remapper.Changed.{Changed}
 use Rattle.capability_engine.specs.declared.remapper.Asked.{Asked}
 use Rattle.capability_engine.specs.RemapHeld.{Holds}
-use Rattle.capability_engine.specs.RemapAsking.{inRange, walked, Trimmable}
-
--- what a call answers, and the remapper after it
-pub record Changed : Type 0 where
-  pub answer : Answer
-  pub remapper : Remapper
+use Rattle.capability_engine.specs.RemapAsking.{inRange}
 
 -- a changing call, with the definitions' answer and the list that they leave
 pub record Does (self : Remapper) (a : Answer) (ss : List Segment) (r : Changed) : Type 0 where
@@ -39,42 +36,69 @@ pub record Does (self : Remapper) (a : Answer) (ss : List Segment) (r : Changed)
 abbrev pub done : Remapper → Changed
 done out = record { answer = Accepted 0; remapper = out }
 
--- a change can be made, and does what the call does
-pub record Puts (self : Remapper) (a : Answer) (ss : List Segment) (s : Segment) : Type 0 where
+-- a segment is put in its place: a new one is asked 11 and 12, and not stored where it shows an identity
+abbrev pub onInsert : Bool → Segment → List Segment → Answer
+onInsert true s ss =
+    ask ((not (overlaps (s .gpa) (s .size * s .repeat) ss), AlreadyAliased) ∷ [])
+    (if isIdentity (s .hpa) (s .gpa) (s .repeat) then Accepted 0 else ask ((length ss <? 64, NoSlot) ∷ []) (Accepted 0))
+onInsert false s ss = Accepted 0
+
+abbrev pub inserted : Bool → Segment → List Segment → List Segment
+inserted true s ss = mapped (s .hpa) (s .gpa) (s .size) (s .repeat) ss
+inserted false s ss = place s ss
+
+abbrev pub Inserts : Remapper → Segment → Bool → Changed → Type 0
+Inserts self s new r =
+    (ss : List Segment) → Holds self ss → (new ≡ false → length ss < 64) → Does self (onInsert new s ss) (inserted new s ss) r
+
+-- the questions of unmap_range from 12 on, and of unmap_gpa_range from 15 on
+unfoldable pub onHost : List Segment → HostAddr → HostAddr → Answer
+onHost ss a e =
+    ask
+    ((not (any (hostInside a e) ss) || (length ss <? 64), NoSlot) ∷ (not (any (frontCut a e) ss), FrontCut)
+    ∷ (inOrder (hostCut a e ss), OutOfOrder) ∷ [])
+    (Accepted 0)
+
+unfoldable pub onSpan : List Segment → GuestAddr → GuestAddr → Answer
+onSpan ss a e =
+    ask
+    ((all (λ s. spanWhole a e s || (s .repeat =? 1)) (keep (touched a e) ss), Repeated)
+    ∷ (not (any (spanInside a e) ss) || (length (keep (touched a e) ss) =? 1), OthersTouched)
+    ∷ (not (any (spanInside a e) ss) || (length ss <? 64), NoSlot)
+    ∷ (inOrder (spanCut a e ss), OutOfOrder) ∷ [])
+    (Accepted 0)
+
+-- a range is cut out
+abbrev pub onCut : Span → List Segment → Answer
+onCut (Host a e) ss = onHost ss a e
+onCut (Guest a e) ss = onSpan ss a e
+
+abbrev pub cutTo : Span → List Segment → List Segment
+cutTo (Host a e) ss = hostCut a e ss
+cutTo (Guest a e) ss = spanCut a e ss
+
+abbrev pub CutsOut : Remapper → Span → Changed → Type 0
+CutsOut self p r = (ss : List Segment) → Holds self ss → Does self (onCut p ss) (cutTo p ss) r
+
+-- what is still to be asked and done is what the call asks and does
+pub record ToPut (self : Remapper) (a : Answer) (ss : List Segment) (s : Segment) : Type 0 where
   pub good : Good s
   pub before : List Segment
   pub held : Holds self before
-  pub room : length before < 64
-  pub does : (out : Remapper) → Holds out (place s before) → Does self a ss (done out)
+  pub asks : onInsert true s before ≡ a
+  pub leaves : inserted true s before ≡ ss
 
-pub record Cuts (self : Remapper) (a : Answer) (ss : List Segment) (p : Span) : Type 0 where
+pub record ToCut (self : Remapper) (a : Answer) (ss : List Segment) (p : Span) : Type 0 where
   pub range : inRange p
   pub before : List Segment
   pub held : Holds self before
-  pub ok : Trimmable p before
-  pub does : (out : Remapper) → Holds out (walked p before) → Does self a ss (done out)
-
-pub record Splits (self : Remapper) (a : Answer) (ss : List Segment) (p : Span) (h : Segment) : Type 0 where
-  pub range : inRange p
-  pub before : List Segment
-  pub held : Holds self before
-  pub ok : Trimmable p before
-  pub good : Good h
-  pub room : length (walked p before) < 64
-  pub does : (out : Remapper) → Holds out (place h (walked p before)) → Does self a ss (done out)
+  pub asks : onCut p before ≡ a
+  pub leaves : cutTo p before ≡ ss
 
 abbrev pub Decides : Remapper → Answer → List Segment → Change → Type 0
-Decides self a ss (Keep x) = Does self a ss (record { answer = x; remapper = self })
-Decides self a ss (Put s) = Puts self a ss s
-Decides self a ss (Cut p) = Cuts self a ss p
-Decides self a ss (Split p h) = Splits self a ss p h
-
--- the answer of a change, and the remapper after it
-abbrev pub settled : Change → Remapper → Changed
-settled (Keep x) out = record { answer = x; remapper = out }
-settled (Put s) out = done out
-settled (Cut p) out = done out
-settled (Split p h) out = done out
+Decides self a ss (Keep x) = Does self a ss (record { remapper = self; answer = x })
+Decides self a ss (Put s) = ToPut self a ss s
+Decides self a ss (Cut p) = ToCut self a ss p
 
 abbrev pub Overlaps : Remapper → GuestAddr → ℕ → Answer → Type 0
 Overlaps self g n r = (c : Compartment) → Holds self (c .segments) → r ≡ onOverlaps c g n
@@ -90,16 +114,6 @@ Unmaps self h n r =
 abbrev pub UnmapsGpa : Remapper → GuestAddr → ℕ → Change → Type 0
 UnmapsGpa self g n r =
     (c : Compartment) → Holds self (c .segments) → Decides self (onUnmapGpa c g n) (unmappedGpa g n (c .segments)) r
-
--- the questions of unmap_gpa_range from 15 on
-unfoldable pub onSpan : List Segment → GuestAddr → GuestAddr → Answer
-onSpan ss a e =
-    ask
-    ((all (λ s. spanWhole a e s || (s .repeat =? 1)) (keep (touched a e) ss), Repeated)
-    ∷ (not (any (spanInside a e) ss) || (length (keep (touched a e) ss) =? 1), OthersTouched)
-    ∷ (not (any (spanInside a e) ss) || (length ss <? 64), NoSlot)
-    ∷ (inOrder (spanCut a e ss), OutOfOrder) ∷ [])
-    (Accepted 0)
 
 -- the questions that need no walk
 unfoldable pub canMap : HostAddr → GuestAddr → ℕ → ℕ → Answer
@@ -121,3 +135,12 @@ canUnmapGpa k used =
     ((not (k .bad), Repeated) ∷ (not (k .split) || not (k .more), OthersTouched)
     ∷ (not (k .split) || (used <? 64), NoSlot) ∷ [])
     (Accepted 0)
+
+-- of both kinds of range, and then the order
+unfoldable pub canFirst : Span → Asked → ℕ → Answer
+canFirst (Host a e) k used = canUnmap k used
+canFirst (Guest a e) k used = canUnmapGpa k used
+
+unfoldable pub thenOrder : Answer → Bool → Answer
+thenOrder (Accepted v) sorted = if sorted then Accepted 0 else Refused OutOfOrder
+thenOrder (Refused w) sorted = Refused w

@@ -5,7 +5,7 @@ use mathlib.Core.List.{List, [], _∷_}
 use mathlib.Core.Bool.{Bool, true, false, not, _&&_, _||_}
 use lib.ListN.{length}
 use Rattle.definitions.specs.Tests.{_<?_, _≤?_, _=?_, if_then_else_, all, any}
-use Rattle.definitions.specs.Segments.{inOrder, hostEnd, spanEnd, front, rest, hostInside, touched, spanWhole, spanInside}
+use Rattle.definitions.specs.Segments.{hostEnd, spanEnd, front, rest, hostInside, touched, spanWhole, spanInside}
 use Rattle.definitions.specs.Questions.{frontCut}
 use Rattle.definitions.specs.declared.addr.HostAddr.{HostAddr}
 use Rattle.definitions.specs.declared.addr.GuestAddr.{GuestAddr}
@@ -132,7 +132,21 @@ orderLeft (Two s t) o =
 unfoldable pub orderStep : Span → Bool → Order → Segment → Order
 orderStep p bad o s = if bad then o else if o .two then orderAt o (s .hpa .0) else orderLeft (leftOf p s) o
 
--- what the walk finds
-pub record Finds (p : Span) (ss : List Segment) (r : Found) : Type 0 where
-  pub asks : r .asked ≡ askAll p nothingAsked ss
-  pub order : r .asked .bad ≡ false → r .sorted ≡ inOrder (walked p ss)
+-- nothing is left yet
+abbrev pub unordered : Order
+unordered = record { last = 0; sorted = true; two = false }
+
+-- what the walk finds: the questions and the order, of one segment more
+abbrev pub nothingFound : Found
+nothingFound = record { asked = nothingAsked; order = unordered }
+
+unfoldable pub findStep : Span → Found → Segment → Found
+findStep p f s = record {
+  asked = askStep p (f .asked) s;
+  order = orderStep p (askStep p (f .asked) s .bad) (f .order) s;
+}
+
+-- a second half is placed as a new one; a host range leaves both in their place
+unfoldable pub hasHalf : Span → Found → Bool
+hasHalf (Host a e) f = false
+hasHalf (Guest a e) f = f .asked .split

@@ -81,7 +81,7 @@ pub(crate) fn on_regions(
     }
 }
 
-// What a call that changes the segments of one compartment comes to. Any other changes nothing.
+// What a call that changes the segments of one compartment comes to by its first questions. Any other changes nothing.
 pub(crate) fn on_segments(call: Call, remapper: Remapper) -> Change
     requires { ⌜ IsHeld remapper ⌝ }
     ensures { λ r. ⌜ AsksSegments call remapper r ⌝ }
@@ -198,25 +198,19 @@ impl Tables {
         let mut remappers = self.remappers;
         let remapper = remappers[k];
         let change = on_segments(call, remapper);
-        match change {
-            Change::Keep(answer) => Outcome {
-                tables: self,
-                answer,
+        let r = remapper.apply(change);
+        let changed = r.remapper;
+        remappers[k] = changed;
+        let arena = self.arena;
+        let trackers = self.trackers;
+        let answer = r.answer;
+        Outcome {
+            tables: Tables {
+                arena,
+                trackers,
+                remappers,
             },
-            _ => {
-                let changed = remapper.apply(change);
-                remappers[k] = changed;
-                let arena = self.arena;
-                let trackers = self.trackers;
-                Outcome {
-                    tables: Tables {
-                        arena,
-                        trackers,
-                        remappers,
-                    },
-                    answer: Answer::Accepted(0),
-                }
-            }
+            answer,
         }
     }
 

@@ -1,5 +1,6 @@
 // remapper.rs: the segments of one compartment. 64 slots, the links between those in use, the free list of the others,
-// and the head. A link, a head or a slot of 64 means none. Everything goes in by value and comes back by value.
+// and the head. A link, a head or a slot of 64 means none. A remapper goes in by value; what changes it asks its questions and
+// makes the change in one function, since each that hands a remapper on copies it.
 use definitions::Answer;
 use definitions::GuestAddr;
 use definitions::HostAddr;
@@ -9,7 +10,7 @@ use free_list::Allocated;
 use free_list::FreeList;
 use free_list::Freed;
 ghost use mathlib.Core.Path.{_≡_};
-ghost use mathlib.Core.Bool.{true, false, _&&_, _||_};
+ghost use mathlib.Core.Bool.{true, false, cond, _&&_, _||_};
 ghost use mathlib.Core.List.{List, [], _∷_, _++_};
 ghost use Prim.Native.Nat.{ℕ, _+_, _*_, _<_, _≤_};
 ghost use lib.ListN.{length};
@@ -17,12 +18,12 @@ ghost use lib.Seq.{sets};
 ghost use Rattle.free_list.specs.Stack.{FreeListCall};
 ghost use Rattle.free_list.specs.Grown.{Grown, IsGrown, Allocates, Frees};
 ghost use Rattle.definitions.proofs.SegmentLaws.{Good};
-ghost use Rattle.definitions.specs.Segments.{segment, hits, isIdentity, place, hostEnd, spanEnd, front as frontOf, rest as restOf, hostInside, touched, spanWhole, spanInside};
+ghost use Rattle.definitions.specs.Segments.{segment, hits, isIdentity, hostEnd, spanEnd, front as frontOf, rest as restOf, hostInside, touched, spanWhole, spanInside};
 ghost use Rattle.definitions.specs.Questions.{frontCut};
 ghost use Rattle.definitions.specs.Pages.{segmentGroup};
 ghost use Rattle.capability_engine.specs.RemapHeld.{joinLinks, joinHead, Zip, Holds, IsHeld};
-ghost use Rattle.capability_engine.specs.RemapAsking.{leftHost, leftGuest, leftOf, okGuest, okFor, askHost, askGuest, askStep, askAll, nothingAsked, walked, inRange, orderAt, orderStep, Finds, repeats, halfOf, Trimmable};
-ghost use Rattle.capability_engine.specs.RemapAnswers.{Does, Decides, settled, canMap, canUnmap, canStart, canUnmapGpa, Overlaps, Maps, Unmaps, UnmapsGpa};
+ghost use Rattle.capability_engine.specs.RemapAsking.{leftHost, leftGuest, leftOf, okGuest, okFor, askHost, askGuest, askStep, inRange, orderAt, orderStep, nothingFound, findStep, hasHalf, repeats, halfOf};
+ghost use Rattle.capability_engine.specs.RemapAnswers.{Does, Decides, canMap, canUnmap, canStart, canUnmapGpa, canFirst, thenOrder, Inserts, CutsOut, Overlaps, Maps, Unmaps, UnmapsGpa};
 ghost use Rattle.capability_engine.specs.RemapListing.{Copied, IsAhead, Starts, Steps};
 
 pub struct Remapper {
@@ -33,13 +34,18 @@ pub struct Remapper {
     pub head: usize,
 }
 
-// What a call comes to: an answer that leaves the remapper as it is, or a change, which is accepted with 0 and cannot be
-// refused any more. A segment is put in its place, or a range is cut out, or the range is cut out and a second half put in.
+// What a call comes to when the questions that need no walk are asked: an answer that leaves the remapper as it is, or a
+// segment that is to be stored, or a range that is to be cut out.
 pub(crate) enum Change {
     Keep(Answer),
     Put(Segment),
     Cut(Span),
-    Split(Span, Segment),
+}
+
+// What a change leaves, and its answer. A refused one leaves the remapper that went in.
+pub(crate) struct Changed {
+    pub(crate) remapper: Remapper,
+    pub(crate) answer: Answer,
 }
 
 // A cursor over the segments: the slot of the next one, 64 at the end.
@@ -86,10 +92,10 @@ pub(crate) struct Order {
     pub(crate) two: bool,
 }
 
-// What one walk finds out for an unmap.
+// What a walk has found out so far for an unmap.
 pub(crate) struct Found {
     pub(crate) asked: Asked,
-    pub(crate) sorted: bool,
+    pub(crate) order: Order,
 }
 
 const MOST: u64 = 18446744073709551615;
@@ -413,6 +419,36 @@ fn ask_order(span: Span, bad: bool, o: Order, s: Segment) -> Order
     }
 }
 
+// The walk of an unmap that has met no segment.
+fn first_found() -> Found
+    ensures { λ r. ⌜ r ≡ nothingFound ⌝ }
+{
+    let half = new_segment(HostAddr(0), GuestAddr(0), 0, 0);
+    let asked = Asked {
+        one: false,
+        more: false,
+        split: false,
+        half,
+        bad: false,
+    };
+    let order = Order {
+        last: 0,
+        sorted: true,
+        two: false,
+    };
+    Found { asked, order }
+}
+
+// The questions and the order, of one segment more.
+fn find_one(span: Span, f: Found, s: Segment) -> Found
+    requires { ⌜ Good s × inRange span ⌝ }
+    ensures { λ r. ⌜ r ≡ findStep span f s ⌝ }
+{
+    let asked = ask_one(span, f.asked, s);
+    let order = ask_order(span, asked.bad, f.order, s);
+    Found { asked, order }
+}
+
 // ---- questions that need no walk
 
 // A map that stores nothing.
@@ -489,6 +525,47 @@ fn can_unmap_gpa(k: Asked, used: usize) -> Answer
     Answer::Accepted(0)
 }
 
+// The questions of an unmap before the order.
+fn can_first(span: Span, k: Asked, used: usize) -> Answer
+    ensures { λ r. ⌜ r ≡ canFirst span k used ⌝ }
+{
+    match span {
+        Span::Host(_, _) => can_unmap(k, used),
+        Span::Guest(_, _) => can_unmap_gpa(k, used),
+    }
+}
+
+// And question 14.
+fn can_cut(span: Span, f: Found, used: usize) -> Answer
+    ensures { λ r. ⌜ r ≡ thenOrder (canFirst span (f .asked) used) (f .order .sorted) ⌝ }
+{
+    let first = can_first(span, f.asked, used);
+    let Answer::Accepted(_) = first else {
+        return first;
+    };
+    if f.order.sorted {
+        return Answer::Accepted(0);
+    }
+    Answer::Refused(Refusal::OutOfOrder)
+}
+
+// Is a second half placed as a new segment? A host range leaves both halves in their place.
+fn has_half(span: Span, f: Found) -> bool
+    ensures { λ r. ⌜ r ≡ hasHalf span f ⌝ }
+{
+    match span {
+        Span::Host(_, _) => false,
+        Span::Guest(_, _) => f.asked.split,
+    }
+}
+
+// Where the walk begins that asks a new segment whether it aliases another: at 64, so nowhere, for one that is not new.
+fn asked_from(new: bool, head: usize) -> usize
+    ensures { λ r. ⌜ r ≡ cond new head 64 ⌝ }
+{
+    if new { head } else { 64 }
+}
+
 pub(crate) fn put_segment(out: &mut [u64], n: usize, s: Segment)
     requires { ⌜ 4 * n + 4 ≤ length (now out) ⌝ }
     ensures { λ _. ⌜ now (out .exit) ≡ sets (now (out .entry)) (4 * n) (segmentGroup s) ⌝ }
@@ -542,13 +619,44 @@ impl Remapper {
         out
     }
 
-    // A segment is put in its place, after its equals; a free slot is there.
-    pub(crate) fn insert_segment(self, s: Segment) -> Remapper
-        requires { ⌜ Good s × ((ss : List Segment) × Holds self ss × (length ss < 64)) ⌝ }
-        ensures { λ r. ⌜ ((ss : List Segment) → Holds self ss → length ss < 64 → Holds r (place s ss)) ⌝ }
+    // A segment is put in its place, after its equals. A new one is asked 11 first, is not stored where it shows an identity, and
+    // is asked 12; for any other there is a free slot.
+    pub(crate) fn insert_segment(self, s: Segment, new: bool) -> Changed
+        requires { ⌜ Good s × ((ss : List Segment) × Holds self ss × (new ≡ false → length ss < 64)) ⌝ }
+        ensures { λ r. ⌜ Inserts self s new r ⌝ }
     {
-        let h = s.hpa.0;
         let mut out = self;
+        let start = s.gpa;
+        let end = GuestAddr(span_end(s));
+        let mut asking = asked_from(new, out.head);
+        while asking < 64 {
+            let t = out.segments[asking];
+            if is_hit(start, end, t) {
+                return Changed {
+                    remapper: out,
+                    answer: Answer::Refused(Refusal::AlreadyAliased),
+                };
+            }
+            if end.0 < t.gpa.0 {
+                asking = 64;
+            } else {
+                asking = out.links[asking];
+            }
+        }
+        if and(new, is_identity(s.hpa, start, s.repeat)) {
+            return Changed {
+                remapper: out,
+                answer: Answer::Accepted(0),
+            };
+        }
+        let list = out.list;
+        if and(new, 64 <= list.count) {
+            return Changed {
+                remapper: out,
+                answer: Answer::Refused(Refusal::NoSlot),
+            };
+        }
+        let h = s.hpa.0;
         let mut prev: usize = 64;
         let mut at = out.head;
         let mut on = at;
@@ -562,7 +670,6 @@ impl Remapper {
                 on = at;
             }
         }
-        let list = out.list;
         let x = list.head;
         out.segments[x] = s;
         out.links[x] = at;
@@ -572,53 +679,35 @@ impl Remapper {
         let a = take_slot(&mut out.free, list);
         let rest = a.list;
         out.list = rest;
-        out
-    }
-
-    // What the questions of an unmap want to know.
-    fn asked(self, span: Span) -> Found
-        requires { ⌜ IsHeld self × inRange span ⌝ }
-        ensures { λ r. ⌜ ((ss : List Segment) → Holds self ss → Finds span ss r) ⌝ }
-    {
-        let none = Segment {
-            hpa: HostAddr(0),
-            gpa: GuestAddr(0),
-            size: 0,
-            repeat: 0,
-        };
-        let mut k = Asked {
-            one: false,
-            more: false,
-            split: false,
-            half: none,
-            bad: false,
-        };
-        let mut o = Order {
-            last: 0,
-            sorted: true,
-            two: false,
-        };
-        let mut at = self.head;
-        while at < 64 {
-            let s = self.segments[at];
-            k = ask_one(span, k, s);
-            o = ask_order(span, k.bad, o, s);
-            at = self.links[at];
-        }
-        Found {
-            asked: k,
-            sorted: o.sorted,
+        Changed {
+            remapper: out,
+            answer: Answer::Accepted(0),
         }
     }
 
-    // Each segment becomes what the range leaves of it. The questions were asked.
-    pub(crate) fn trim(self, span: Span) -> Remapper
-        requires { ⌜ inRange span × ((ss : List Segment) × Holds self ss × Trimmable span ss) ⌝ }
-        ensures { λ r. ⌜ ((ss : List Segment) → Holds self ss → Trimmable span ss → Holds r (walked span ss)) ⌝ }
+    // A range is cut out of each segment: the questions in one walk, and then another in which each becomes what is left of it.
+    pub(crate) fn cut(self, span: Span) -> Changed
+        requires { ⌜ inRange span × IsHeld self ⌝ }
+        ensures { λ r. ⌜ CutsOut self span r ⌝ }
     {
         let mut out = self;
+        let mut f = first_found();
+        let mut asking = out.head;
+        while asking < 64 {
+            let s = out.segments[asking];
+            f = find_one(span, f, s);
+            asking = out.links[asking];
+        }
+        let used = out.list;
+        let answer = can_cut(span, f, used.count);
+        let Answer::Accepted(_) = answer else {
+            return Changed {
+                remapper: out,
+                answer,
+            };
+        };
         let mut prev: usize = 64;
-        let mut at = self.head;
+        let mut at = out.head;
         while at < 64 {
             let s = out.segments[at];
             let next = out.links[at];
@@ -629,8 +718,8 @@ impl Remapper {
                     let first = join(&mut out.links, head, prev, next);
                     out.head = first;
                     let list = out.list;
-                    let f = free_slot(&mut out.free, list, at);
-                    let more = f.list;
+                    let freed = free_slot(&mut out.free, list, at);
+                    let more = freed.list;
                     out.list = more;
                     at = next;
                 }
@@ -641,11 +730,22 @@ impl Remapper {
                 }
                 Left::Two(t, u) => {
                     out.segments[at] = t;
-                    return out.link_in(at, next, u);
+                    let linked = out.link_in(at, next, u);
+                    return Changed {
+                        remapper: linked,
+                        answer: Answer::Accepted(0),
+                    };
                 }
             }
         }
-        out
+        if has_half(span, f) {
+            let half = f.asked.half;
+            return out.insert_segment(half, false);
+        }
+        Changed {
+            remapper: out,
+            answer: Answer::Accepted(0),
+        }
     }
 
     // Does a stored guest span hold an end of the range? A miss behind the range's end stops the walk.
@@ -673,6 +773,7 @@ impl Remapper {
         Answer::Accepted(0)
     }
 
+    // Questions 9 and 10; a segment that passes is to be stored.
     pub(crate) fn map_range(self, hpa: HostAddr, gpa: GuestAddr, size: u64, repeat: u64) -> Change
         requires { ⌜ IsHeld self ⌝ }
         ensures { λ r. ⌜ Maps self hpa gpa size repeat r ⌝ }
@@ -681,21 +782,11 @@ impl Remapper {
         let Answer::Accepted(_) = first else {
             return Change::Keep(first);
         };
-        let hit = self.overlaps(gpa, size * repeat);
-        if hit.value() == 1 {
-            return Change::Keep(Answer::Refused(Refusal::AlreadyAliased));
-        }
-        let list = self.list;
-        if is_identity(hpa, gpa, repeat) {
-            return Change::Keep(Answer::Accepted(0));
-        }
-        if 64 <= list.count {
-            return Change::Keep(Answer::Refused(Refusal::NoSlot));
-        }
         let s = new_segment(hpa, gpa, size, repeat);
         Change::Put(s)
     }
 
+    // Question 10; a range that passes is to be cut out.
     pub(crate) fn unmap_range(self, hpa: HostAddr, size: u64) -> Change
         requires { ⌜ IsHeld self ⌝ }
         ensures { λ r. ⌜ Unmaps self hpa size r ⌝ }
@@ -705,59 +796,34 @@ impl Remapper {
             return Change::Keep(Answer::Refused(Refusal::Overflow));
         }
         let span = Span::Host(hpa, HostAddr(a + size));
-        let f = self.asked(span);
-        let k = f.asked;
-        let list = self.list;
-        let first = can_unmap(k, list.count);
-        let Answer::Accepted(_) = first else {
-            return Change::Keep(first);
-        };
-        if f.sorted {
-            return Change::Cut(span);
-        }
-        Change::Keep(Answer::Refused(Refusal::OutOfOrder))
+        Change::Cut(span)
     }
 
-    // A second half is placed as a new segment; that keeps the order, so it is asked of the list without it.
+    // The same, where there is anything to do.
     pub(crate) fn unmap_gpa_range(self, gpa: GuestAddr, size: u64) -> Change
         requires { ⌜ IsHeld self ⌝ }
         ensures { λ r. ⌜ UnmapsGpa self gpa size r ⌝ }
     {
-        let list = self.list;
         let early = can_start(64 <= self.head, gpa, size);
         if early.value() != 1 {
             return Change::Keep(early);
         }
         let span = Span::Guest(gpa, GuestAddr(gpa.0 + size));
-        let f = self.asked(span);
-        let k = f.asked;
-        let first = can_unmap_gpa(k, list.count);
-        let Answer::Accepted(_) = first else {
-            return Change::Keep(first);
-        };
-        if f.sorted {
-            if k.split {
-                let second = k.half;
-                return Change::Split(span, second);
-            }
-            return Change::Cut(span);
-        }
-        Change::Keep(Answer::Refused(Refusal::OutOfOrder))
+        Change::Cut(span)
     }
 
-    // A change that a call came to.
-    pub(crate) fn apply(self, change: Change) -> Remapper
+    // A change that a call came to: the rest of its questions, and what it does.
+    pub(crate) fn apply(self, change: Change) -> Changed
         requires { ⌜ ((a : Answer) × (ss : List Segment) × Decides self a ss change) ⌝ }
-        ensures { λ r. ⌜ ((a : Answer) (ss : List Segment) → Decides self a ss change → Does self a ss (settled change r)) ⌝ }
+        ensures { λ r. ⌜ ((a : Answer) (ss : List Segment) → Decides self a ss change → Does self a ss r) ⌝ }
     {
         match change {
-            Change::Put(s) => self.insert_segment(s),
-            Change::Cut(span) => self.trim(span),
-            Change::Split(span, s) => {
-                let cut = self.trim(span);
-                cut.insert_segment(s)
-            }
-            Change::Keep(_) => self,
+            Change::Put(s) => self.insert_segment(s, true),
+            Change::Cut(span) => self.cut(span),
+            Change::Keep(answer) => Changed {
+                remapper: self,
+                answer,
+            },
         }
     }
 

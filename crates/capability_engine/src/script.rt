@@ -350,10 +350,23 @@ impl Tables {
                             Change::Keep(answer) => {
                                 p = tell(out, p, answer);
                             }
-                            _ => {
-                                let changed = remapper.apply(change);
-                                remappers[i] = changed;
-                                p = tell(out, p, Answer::Accepted(0));
+                            Change::Put(segment) => {
+                                let r = remapper.insert_segment(segment, true);
+                                let answer = r.answer;
+                                p = tell(out, p, answer);
+                                if let Answer::Accepted(_) = answer {
+                                    let changed = r.remapper;
+                                    remappers[i] = changed;
+                                }
+                            }
+                            Change::Cut(span) => {
+                                let r = remapper.cut(span);
+                                let answer = r.answer;
+                                p = tell(out, p, answer);
+                                if let Answer::Accepted(_) = answer {
+                                    let changed = r.remapper;
+                                    remappers[i] = changed;
+                                }
                             }
                         }
                     }

@@ -2,8 +2,7 @@ use native.Mathlib.Omega.{arith}
 use mathlib.Core.Path.{sym}
 use Rattle.capability_engine.proofs.CompartmentFacts.{held}
 use Rattle.capability_engine.proofs.CompartmentReads.{past-answers}
-use Rattle.capability_engine.proofs.CompartmentCalls.{keeps, ready, settles, segments-answers, segments-same}
-use Rattle.capability_engine.specs.RemapAnswers.{done}
+use Rattle.capability_engine.proofs.CompartmentCalls.{ready, settles, segments-answers}
 use borrow.Author.Needs.{needs}
 use Rattle.capability_engine.proofs.compartments.Tables.change_segments.Statement.{
   statement,
@@ -25,11 +24,8 @@ array-copy-out-remapper c = search needs
 on-segments-requires : tie.Need-on-segments-requires
 on-segments-requires c κs = (_, held _ _ _ _ _ _ (c .before .before .before .before .before .before .before .before .pre .0 .grown) _ (omega (arith, c .before .before .if1 .left)) _)
 
-enum-known-change : tie.Need-enum-known-change
-enum-known-change c = search needs
-
 apply-requires : tie.Need-apply-requires
-apply-requires c κs = ready _ _ (c .before .on-segments .result) (c .before .on-segments .ensures) (c .before .before .before .before .before .before .before .before .before .before .pre .1) (_, held _ _ _ _ _ _ (c .before .before .before .before .before .before .before .before .before .before .pre .0 .grown) _ (omega (arith, c .before .before .before .before .if1 .left)) _)
+apply-requires c κs = ready _ _ (c .on-segments .result) (c .on-segments .ensures) (c .before .before .before .before .before .before .before .before .before .pre .1) (_, held _ _ _ _ _ _ (c .before .before .before .before .before .before .before .before .before .pre .0 .grown) _ (omega (arith, c .before .before .before .if1 .left)) _)
 
 mul-remappers : tie.Need-mul-remappers
 mul-remappers c = search needs
@@ -38,10 +34,7 @@ array-set-from-remappers : tie.Need-array-set-from-remappers
 array-set-from-remappers c = search needs
 
 returns-2 : tie.Need-returns-2
-returns-2 c = λ calls g. segments-same _ _ _ _ _ calls g _ _ (c .before .before .before .before .before .before .before .compartment .ensures) (omega (arith, c .before .before .before .before .before .before .if1 .left)) _ _ (c .before .before .before .before .before .before .before .before .before .before .before .before .pre .1) (keeps _ _ _ (c .before .before .before .on-segments .ensures) _ (c .before .change .given .1))
-
-returns-3 : tie.Need-returns-3
-returns-3 c = λ calls g. segments-answers _ _ _ _ _ calls g _ _ (c .before .before .before .before .before .before .before .before .compartment .ensures) (omega (arith, c .before .before .before .before .before .before .before .if1 .left)) _ (done (c .before .before .apply .result)) (c .before .before .before .before .before .before .before .before .before .before .before .before .before .pre .1) (settles _ _ (c .before .before .before .before .on-segments .result) (c .before .before .before .before .on-segments .ensures) _ (c .before .before .apply .ensures) (c .before .before .before .match .keys2))
+returns-2 c = λ calls g. segments-answers _ _ _ _ _ calls g _ _ (c .before .before .before .before .before .before .before .before .compartment .ensures) (omega (arith, c .before .before .before .before .before .before .before .if1 .left)) _ (c .before .before .before .apply .result) (c .before .before .before .before .before .before .before .before .before .before .before .before .before .pre .1) (settles _ _ (c .before .before .before .before .on-segments .result) (c .before .before .before .before .on-segments .ensures) (c .before .before .before .apply .result) (c .before .before .before .apply .ensures))
 
 pub change-segments-spec : {M : Type 1} → statement M
 change-segments-spec =
@@ -52,9 +45,7 @@ change-segments-spec =
     mul-remapper
     array-copy-out-remapper
     on-segments-requires
-    enum-known-change
     apply-requires
     mul-remappers
     array-set-from-remappers
-    returns-2
-    returns-3)
+    returns-2)

@@ -8,8 +8,7 @@ use lib.ListN.{length}
 use Rattle.definitions.specs.declared.call.Call.{Call}
 use Rattle.capability_engine.specs.CompartmentGrown.{Grown}
 use Rattle.capability_engine.proofs.ScriptGoing.{toDo, scriptAt, Going, going-start, shown, going-room, going-print, going-full, going-tell, going-part, going-owed, regions-sound, regions-tracked, going-regions, segments-sound, segments-held, going-segments, going-same, less-heard, less-told, less-full, less-print, going-end, sized}
-use Rattle.capability_engine.specs.RemapAnswers.{done}
-use Rattle.capability_engine.proofs.CompartmentCalls.{keeps, ready, settles}
+use Rattle.capability_engine.proofs.CompartmentCalls.{keeps, puts, cuts, ready-put, ready-cut, refused-same}
 use Rattle.capability_engine.proofs.compartments.Tables.feed.Statement.{statement}
 use Rattle.capability_engine.proofs.compartments.Tables.feed.Tie as tie
 
@@ -130,41 +129,89 @@ loop-less-5 c = less-told _ _ _ _ (c .before .before .tell3 .ensures .1) (c .bef
 loop-again-5 : tie.Need-loop-again-5 Inv-loop μ-loop
 loop-again-5 c = λ calls g. going-same _ _ _ _ _ _ _ _ _ _ _ _ (c .before .before .before .before .before .before .before .before .before .before .before .before .before .before .before .before .before .before .before .before .loop .inv calls g) (c .before .before .before .before .before .before .before .before .before .before .before .before .before .before .before .before .before .if2 .left) (c .before .before .before .before .before .before .before .before .before .before .before .before .before .before .before .before .before .before .before .goes-on .ensures .on (c .before .before .before .before .before .before .before .before .before .before .before .before .before .before .before .before .before .before .if1 .taken) .0) _ _ (c .before .before .before .before .before .before .before .before .before .before .before .before .before .hear .ensures) _ _ (c .before .before .before .before .before .before .before .before .before .before .task3 .given .1) _ _ _ _ (keeps _ _ _ (c .before .before .before .before .before .before .before .on-segments .ensures) _ (c .before .before .before .before .before .change .given .1)) (c .before .before .tell3 .ensures .0) (c .before .before .tell3 .ensures .1) (room _ _ 25 _ (c .before .before .before .before .before .before .before .before .before .before .before .before .before .before .before .before .has-room .ensures) (c .before .before .before .before .before .before .before .before .before .before .before .before .before .before .before .if3 .left))
 
-apply-requires : tie.Need-apply-requires Inv-loop μ-loop
-apply-requires c κs = ready _ _ (c .before .on-segments .result) (c .before .on-segments .ensures) (segments-sound _ _ _ _ _ _ _ _ _ _ _ _ (c .before .before .before .before .before .before .before .before .before .before .before .before .before .before .loop .inv (c .before .before .before .before .before .before .before .before .before .before .before .before .before .before .before .before .before .before .before .before .before .before .before .before .before .before .pre .calls) (c .before .before .before .before .before .before .before .before .before .before .before .before .before .before .before .before .before .before .before .before .before .before .before .before .before .before .pre .grown)) (c .before .before .before .before .before .before .before .before .before .before .before .if2 .left) (c .before .before .before .before .before .before .before .before .before .before .before .before .before .goes-on .ensures .on (c .before .before .before .before .before .before .before .before .before .before .before .before .if1 .taken) .0) _ _ (c .before .before .before .before .before .before .before .hear .ensures) _ _ (c .before .before .before .before .task3 .given .1) .2) (segments-held _ _ _ _ _ _ _ _ _ _ _ _ (c .before .before .before .before .before .before .before .before .before .before .before .before .before .before .loop .inv (c .before .before .before .before .before .before .before .before .before .before .before .before .before .before .before .before .before .before .before .before .before .before .before .before .before .before .pre .calls) (c .before .before .before .before .before .before .before .before .before .before .before .before .before .before .before .before .before .before .before .before .before .before .before .before .before .before .pre .grown)) (c .before .before .before .before .before .before .before .before .before .before .before .if2 .left) (c .before .before .before .before .before .before .before .before .before .before .before .before .before .goes-on .ensures .on (c .before .before .before .before .before .before .before .before .before .before .before .before .if1 .taken) .0) _ _ (c .before .before .before .before .before .before .before .hear .ensures) _ _ (c .before .before .before .before .task3 .given .1) _)
+enum-known-change-2 : tie.Need-enum-known-change-2 Inv-loop μ-loop
+enum-known-change-2 c = search needs
 
-mul-remappers : tie.Need-mul-remappers Inv-loop μ-loop
-mul-remappers c = record { fits = omega (arith, segments-sound _ _ _ _ _ _ _ _ _ _ _ _ (c .before .before .before .before .before .before .before .before .before .before .before .before .before .before .before .loop .inv (c .before .before .before .before .before .before .before .before .before .before .before .before .before .before .before .before .before .before .before .before .before .before .before .before .before .before .before .pre .calls) (c .before .before .before .before .before .before .before .before .before .before .before .before .before .before .before .before .before .before .before .before .before .before .before .before .before .before .before .pre .grown)) (c .before .before .before .before .before .before .before .before .before .before .before .before .if2 .left) (c .before .before .before .before .before .before .before .before .before .before .before .before .before .before .goes-on .ensures .on (c .before .before .before .before .before .before .before .before .before .before .before .before .before .if1 .taken) .0) _ _ (c .before .before .before .before .before .before .before .before .hear .ensures) _ _ (c .before .before .before .before .before .task3 .given .1) .1) }
-
-array-set-from-remappers : tie.Need-array-set-from-remappers Inv-loop μ-loop
-array-set-from-remappers c = segments-sound _ _ _ _ _ _ _ _ _ _ _ _ (c .before .before .before .before .before .before .before .before .before .before .before .before .before .before .before .loop .inv (c .before .before .before .before .before .before .before .before .before .before .before .before .before .before .before .before .before .before .before .before .before .before .before .before .before .before .before .pre .calls) (c .before .before .before .before .before .before .before .before .before .before .before .before .before .before .before .before .before .before .before .before .before .before .before .before .before .before .before .pre .grown)) (c .before .before .before .before .before .before .before .before .before .before .before .before .if2 .left) (c .before .before .before .before .before .before .before .before .before .before .before .before .before .before .goes-on .ensures .on (c .before .before .before .before .before .before .before .before .before .before .before .before .before .if1 .taken) .0) _ _ (c .before .before .before .before .before .before .before .before .hear .ensures) _ _ (c .before .before .before .before .before .task3 .given .1) .1
+insert-segment-requires : tie.Need-insert-segment-requires Inv-loop μ-loop
+insert-segment-requires c κs = ready-put _ _ (c .before .before .before .on-segments .result) (c .before .before .before .on-segments .ensures) (segments-sound _ _ _ _ _ _ _ _ _ _ _ _ (c .before .before .before .before .before .before .before .before .before .before .before .before .before .before .before .before .loop .inv (c .before .before .before .before .before .before .before .before .before .before .before .before .before .before .before .before .before .before .before .before .before .before .before .before .before .before .before .before .pre .calls) (c .before .before .before .before .before .before .before .before .before .before .before .before .before .before .before .before .before .before .before .before .before .before .before .before .before .before .before .before .pre .grown)) (c .before .before .before .before .before .before .before .before .before .before .before .before .before .if2 .left) (c .before .before .before .before .before .before .before .before .before .before .before .before .before .before .before .goes-on .ensures .on (c .before .before .before .before .before .before .before .before .before .before .before .before .before .before .if1 .taken) .0) _ _ (c .before .before .before .before .before .before .before .before .before .hear .ensures) _ _ (c .before .before .before .before .before .before .task3 .given .1) .2) (segments-held _ _ _ _ _ _ _ _ _ _ _ _ (c .before .before .before .before .before .before .before .before .before .before .before .before .before .before .before .before .loop .inv (c .before .before .before .before .before .before .before .before .before .before .before .before .before .before .before .before .before .before .before .before .before .before .before .before .before .before .before .before .pre .calls) (c .before .before .before .before .before .before .before .before .before .before .before .before .before .before .before .before .before .before .before .before .before .before .before .before .before .before .before .before .pre .grown)) (c .before .before .before .before .before .before .before .before .before .before .before .before .before .if2 .left) (c .before .before .before .before .before .before .before .before .before .before .before .before .before .before .before .goes-on .ensures .on (c .before .before .before .before .before .before .before .before .before .before .before .before .before .before .if1 .taken) .0) _ _ (c .before .before .before .before .before .before .before .before .before .hear .ensures) _ _ (c .before .before .before .before .before .before .task3 .given .1) _) _ (c .before .change2 .given .1)
 
 tell-requires-4 : tie.Need-tell-requires-4 Inv-loop μ-loop
-tell-requires-4 c κs = ((room _ _ 25 _ (c .before .before .before .before .before .before .before .before .before .before .before .before .has-room .ensures) (c .before .before .before .before .before .before .before .before .before .before .before .if3 .left)), (c .before .before .before .before .before .before .before .before .before .before .before .before .before .before .before .before .loop .inv (c .before .before .before .before .before .before .before .before .before .before .before .before .before .before .before .before .before .before .before .before .before .before .before .before .before .before .before .before .pre .calls) (c .before .before .before .before .before .before .before .before .before .before .before .before .before .before .before .before .before .before .before .before .before .before .before .before .before .before .before .before .pre .grown)) .adds .counted)
-
-loop-less-6 : tie.Need-loop-less-6 Inv-loop μ-loop
-loop-less-6 c = less-told _ _ _ _ (c .before .before .tell4 .ensures .1) (c .before .before .before .before .before .before .before .before .before .before .before .before .hear .ensures .ahead) (c .before .before .before .before .before .before .before .before .before .before .before .before .hear .ensures .taken)
-
-loop-again-6 : tie.Need-loop-again-6 Inv-loop μ-loop
-loop-again-6 c = λ calls g. going-segments _ _ _ _ _ _ _ _ _ _ _ _ (c .before .before .before .before .before .before .before .before .before .before .before .before .before .before .before .before .before .before .before .loop .inv calls g) (c .before .before .before .before .before .before .before .before .before .before .before .before .before .before .before .before .if2 .left) (c .before .before .before .before .before .before .before .before .before .before .before .before .before .before .before .before .before .before .goes-on .ensures .on (c .before .before .before .before .before .before .before .before .before .before .before .before .before .before .before .before .before .if1 .taken) .0) _ _ (c .before .before .before .before .before .before .before .before .before .before .before .before .hear .ensures) _ _ (c .before .before .before .before .before .before .before .before .before .task3 .given .1) _ (done (c .before .before .before .before .apply .result)) _ _ (settles _ _ (c .before .before .before .before .before .before .on-segments .result) (c .before .before .before .before .before .before .on-segments .ensures) _ (c .before .before .before .before .apply .ensures) (c .before .before .before .before .before .match2 .keys2)) (c .before .before .tell4 .ensures .0) (c .before .before .tell4 .ensures .1) (room _ _ 25 _ (c .before .before .before .before .before .before .before .before .before .before .before .before .before .before .before .has-room .ensures) (c .before .before .before .before .before .before .before .before .before .before .before .before .before .before .if3 .left))
-
-enum-known-task-4 : tie.Need-enum-known-task-4 Inv-loop μ-loop
-enum-known-task-4 c = search needs
-
-loop-less-7 : tie.Need-loop-less-7 Inv-loop μ-loop
-loop-less-7 c = less-heard _ _ _ (c .before .before .before .before .hear .ensures .ahead) (c .before .before .before .before .hear .ensures .taken)
-
-loop-again-7 : tie.Need-loop-again-7 Inv-loop μ-loop
-loop-again-7 c = λ calls g. going-owed _ _ _ _ _ _ _ _ _ _ _ _ (c .before .before .before .before .before .before .before .before .before .before .before .loop .inv calls g) (c .before .before .before .before .before .before .before .before .if2 .left) (c .before .before .before .before .before .before .before .before .before .before .goes-on .ensures .on (c .before .before .before .before .before .before .before .before .before .if1 .taken) .0) _ _ (c .before .before .before .before .hear .ensures) _ (c .before .task4 .given .1)
+tell-requires-4 c κs = ((room _ _ 25 _ (c .before .before .before .before .before .before .before .before .before .before .before .before .before .before .has-room .ensures) (c .before .before .before .before .before .before .before .before .before .before .before .before .before .if3 .left)), (c .before .before .before .before .before .before .before .before .before .before .before .before .before .before .before .before .before .before .loop .inv (c .before .before .before .before .before .before .before .before .before .before .before .before .before .before .before .before .before .before .before .before .before .before .before .before .before .before .before .before .before .before .pre .calls) (c .before .before .before .before .before .before .before .before .before .before .before .before .before .before .before .before .before .before .before .before .before .before .before .before .before .before .before .before .before .before .pre .grown)) .adds .counted)
 
 enum-told : tie.Need-enum-told Inv-loop μ-loop
 enum-told c = search needs
 
+mul-remappers : tie.Need-mul-remappers Inv-loop μ-loop
+mul-remappers c = record { fits = omega (arith, segments-sound _ _ _ _ _ _ _ _ _ _ _ _ (c .before .before .before .before .before .before .before .before .before .before .before .before .before .before .before .before .before .before .before .before .before .before .before .before .loop .inv (c .before .before .before .before .before .before .before .before .before .before .before .before .before .before .before .before .before .before .before .before .before .before .before .before .before .before .before .before .before .before .before .before .before .before .before .before .pre .calls) (c .before .before .before .before .before .before .before .before .before .before .before .before .before .before .before .before .before .before .before .before .before .before .before .before .before .before .before .before .before .before .before .before .before .before .before .before .pre .grown)) (c .before .before .before .before .before .before .before .before .before .before .before .before .before .before .before .before .before .before .before .before .before .if2 .left) (c .before .before .before .before .before .before .before .before .before .before .before .before .before .before .before .before .before .before .before .before .before .before .before .goes-on .ensures .on (c .before .before .before .before .before .before .before .before .before .before .before .before .before .before .before .before .before .before .before .before .before .before .if1 .taken) .0) _ _ (c .before .before .before .before .before .before .before .before .before .before .before .before .before .before .before .before .before .hear .ensures) _ _ (c .before .before .before .before .before .before .before .before .before .before .before .before .before .before .task3 .given .1) .1) }
+
+array-set-from-remappers : tie.Need-array-set-from-remappers Inv-loop μ-loop
+array-set-from-remappers c = segments-sound _ _ _ _ _ _ _ _ _ _ _ _ (c .before .before .before .before .before .before .before .before .before .before .before .before .before .before .before .before .before .before .before .before .before .before .before .before .loop .inv (c .before .before .before .before .before .before .before .before .before .before .before .before .before .before .before .before .before .before .before .before .before .before .before .before .before .before .before .before .before .before .before .before .before .before .before .before .pre .calls) (c .before .before .before .before .before .before .before .before .before .before .before .before .before .before .before .before .before .before .before .before .before .before .before .before .before .before .before .before .before .before .before .before .before .before .before .before .pre .grown)) (c .before .before .before .before .before .before .before .before .before .before .before .before .before .before .before .before .before .before .before .before .before .if2 .left) (c .before .before .before .before .before .before .before .before .before .before .before .before .before .before .before .before .before .before .before .before .before .before .before .goes-on .ensures .on (c .before .before .before .before .before .before .before .before .before .before .before .before .before .before .before .before .before .before .before .before .before .before .if1 .taken) .0) _ _ (c .before .before .before .before .before .before .before .before .before .before .before .before .before .before .before .before .before .hear .ensures) _ _ (c .before .before .before .before .before .before .before .before .before .before .before .before .before .before .task3 .given .1) .1
+
+loop-less-6 : tie.Need-loop-less-6 Inv-loop μ-loop
+loop-less-6 c = less-told _ _ _ _ (c .before .before .before .before .before .tell4 .ensures .1) (c .before .before .before .before .before .before .before .before .before .before .before .before .before .before .before .before .before .hear .ensures .ahead) (c .before .before .before .before .before .before .before .before .before .before .before .before .before .before .before .before .before .hear .ensures .taken)
+
+loop-again-6 : tie.Need-loop-again-6 Inv-loop μ-loop
+loop-again-6 c = λ calls g. going-segments _ _ _ _ _ _ _ _ _ _ _ _ (c .before .before .before .before .before .before .before .before .before .before .before .before .before .before .before .before .before .before .before .before .before .before .before .before .loop .inv calls g) (c .before .before .before .before .before .before .before .before .before .before .before .before .before .before .before .before .before .before .before .before .before .if2 .left) (c .before .before .before .before .before .before .before .before .before .before .before .before .before .before .before .before .before .before .before .before .before .before .before .goes-on .ensures .on (c .before .before .before .before .before .before .before .before .before .before .before .before .before .before .before .before .before .before .before .before .before .before .if1 .taken) .0) _ _ (c .before .before .before .before .before .before .before .before .before .before .before .before .before .before .before .before .before .hear .ensures) _ _ (c .before .before .before .before .before .before .before .before .before .before .before .before .before .before .task3 .given .1) _ (c .before .before .before .before .before .before .before .insert-segment .result) _ _ (puts _ _ (c .before .before .before .before .before .before .before .before .before .before .before .on-segments .result) (c .before .before .before .before .before .before .before .before .before .before .before .on-segments .ensures) _ (c .before .before .before .before .before .before .before .before .before .change2 .given .1) (c .before .before .before .before .before .before .before .insert-segment .result) (c .before .before .before .before .before .before .before .insert-segment .ensures)) (c .before .before .before .before .before .tell4 .ensures .0) (c .before .before .before .before .before .tell4 .ensures .1) (room _ _ 25 _ (c .before .before .before .before .before .before .before .before .before .before .before .before .before .before .before .before .before .before .before .before .has-room .ensures) (c .before .before .before .before .before .before .before .before .before .before .before .before .before .before .before .before .before .before .before .if3 .left))
+
+enum-told-2 : tie.Need-enum-told-2 Inv-loop μ-loop
+enum-told-2 c = search needs
+
+loop-less-7 : tie.Need-loop-less-7 Inv-loop μ-loop
+loop-less-7 c = less-told _ _ _ _ (c .before .before .before .before .tell4 .ensures .1) (c .before .before .before .before .before .before .before .before .before .before .before .before .before .before .before .before .hear .ensures .ahead) (c .before .before .before .before .before .before .before .before .before .before .before .before .before .before .before .before .hear .ensures .taken)
+
+loop-again-7 : tie.Need-loop-again-7 Inv-loop μ-loop
+loop-again-7 c = λ calls g. going-same _ _ _ _ _ _ _ _ _ _ _ _ (c .before .before .before .before .before .before .before .before .before .before .before .before .before .before .before .before .before .before .before .before .before .before .before .loop .inv calls g) (c .before .before .before .before .before .before .before .before .before .before .before .before .before .before .before .before .before .before .before .before .if2 .left) (c .before .before .before .before .before .before .before .before .before .before .before .before .before .before .before .before .before .before .before .before .before .before .goes-on .ensures .on (c .before .before .before .before .before .before .before .before .before .before .before .before .before .before .before .before .before .before .before .before .before .if1 .taken) .0) _ _ (c .before .before .before .before .before .before .before .before .before .before .before .before .before .before .before .before .hear .ensures) _ _ (c .before .before .before .before .before .before .before .before .before .before .before .before .before .task3 .given .1) _ _ _ _ (refused-same _ _ (c .before .before .before .before .before .before .insert-segment .result) (puts _ _ (c .before .before .before .before .before .before .before .before .before .before .on-segments .result) (c .before .before .before .before .before .before .before .before .before .before .on-segments .ensures) _ (c .before .before .before .before .before .before .before .before .change2 .given .1) (c .before .before .before .before .before .before .insert-segment .result) (c .before .before .before .before .before .before .insert-segment .ensures)) _ (c .enum-told2 .given .1)) (c .before .before .before .before .tell4 .ensures .0) (c .before .before .before .before .tell4 .ensures .1) (room _ _ 25 _ (c .before .before .before .before .before .before .before .before .before .before .before .before .before .before .before .before .before .before .before .has-room .ensures) (c .before .before .before .before .before .before .before .before .before .before .before .before .before .before .before .before .before .before .if3 .left))
+
+enum-known-change-3 : tie.Need-enum-known-change-3 Inv-loop μ-loop
+enum-known-change-3 c = search needs
+
+cut-requires : tie.Need-cut-requires Inv-loop μ-loop
+cut-requires c κs = ready-cut _ _ (c .before .before .before .on-segments .result) (c .before .before .before .on-segments .ensures) (segments-sound _ _ _ _ _ _ _ _ _ _ _ _ (c .before .before .before .before .before .before .before .before .before .before .before .before .before .before .before .before .loop .inv (c .before .before .before .before .before .before .before .before .before .before .before .before .before .before .before .before .before .before .before .before .before .before .before .before .before .before .before .before .pre .calls) (c .before .before .before .before .before .before .before .before .before .before .before .before .before .before .before .before .before .before .before .before .before .before .before .before .before .before .before .before .pre .grown)) (c .before .before .before .before .before .before .before .before .before .before .before .before .before .if2 .left) (c .before .before .before .before .before .before .before .before .before .before .before .before .before .before .before .goes-on .ensures .on (c .before .before .before .before .before .before .before .before .before .before .before .before .before .before .if1 .taken) .0) _ _ (c .before .before .before .before .before .before .before .before .before .hear .ensures) _ _ (c .before .before .before .before .before .before .task3 .given .1) .2) (segments-held _ _ _ _ _ _ _ _ _ _ _ _ (c .before .before .before .before .before .before .before .before .before .before .before .before .before .before .before .before .loop .inv (c .before .before .before .before .before .before .before .before .before .before .before .before .before .before .before .before .before .before .before .before .before .before .before .before .before .before .before .before .pre .calls) (c .before .before .before .before .before .before .before .before .before .before .before .before .before .before .before .before .before .before .before .before .before .before .before .before .before .before .before .before .pre .grown)) (c .before .before .before .before .before .before .before .before .before .before .before .before .before .if2 .left) (c .before .before .before .before .before .before .before .before .before .before .before .before .before .before .before .goes-on .ensures .on (c .before .before .before .before .before .before .before .before .before .before .before .before .before .before .if1 .taken) .0) _ _ (c .before .before .before .before .before .before .before .before .before .hear .ensures) _ _ (c .before .before .before .before .before .before .task3 .given .1) _) _ (c .before .change3 .given .1)
+
+tell-requires-5 : tie.Need-tell-requires-5 Inv-loop μ-loop
+tell-requires-5 c κs = ((room _ _ 25 _ (c .before .before .before .before .before .before .before .before .before .before .before .before .before .before .has-room .ensures) (c .before .before .before .before .before .before .before .before .before .before .before .before .before .if3 .left)), (c .before .before .before .before .before .before .before .before .before .before .before .before .before .before .before .before .before .before .loop .inv (c .before .before .before .before .before .before .before .before .before .before .before .before .before .before .before .before .before .before .before .before .before .before .before .before .before .before .before .before .before .before .pre .calls) (c .before .before .before .before .before .before .before .before .before .before .before .before .before .before .before .before .before .before .before .before .before .before .before .before .before .before .before .before .before .before .pre .grown)) .adds .counted)
+
+enum-told-3 : tie.Need-enum-told-3 Inv-loop μ-loop
+enum-told-3 c = search needs
+
+mul-remappers-2 : tie.Need-mul-remappers-2 Inv-loop μ-loop
+mul-remappers-2 c = record { fits = omega (arith, segments-sound _ _ _ _ _ _ _ _ _ _ _ _ (c .before .before .before .before .before .before .before .before .before .before .before .before .before .before .before .before .before .before .before .before .before .before .before .before .loop .inv (c .before .before .before .before .before .before .before .before .before .before .before .before .before .before .before .before .before .before .before .before .before .before .before .before .before .before .before .before .before .before .before .before .before .before .before .before .pre .calls) (c .before .before .before .before .before .before .before .before .before .before .before .before .before .before .before .before .before .before .before .before .before .before .before .before .before .before .before .before .before .before .before .before .before .before .before .before .pre .grown)) (c .before .before .before .before .before .before .before .before .before .before .before .before .before .before .before .before .before .before .before .before .before .if2 .left) (c .before .before .before .before .before .before .before .before .before .before .before .before .before .before .before .before .before .before .before .before .before .before .before .goes-on .ensures .on (c .before .before .before .before .before .before .before .before .before .before .before .before .before .before .before .before .before .before .before .before .before .before .if1 .taken) .0) _ _ (c .before .before .before .before .before .before .before .before .before .before .before .before .before .before .before .before .before .hear .ensures) _ _ (c .before .before .before .before .before .before .before .before .before .before .before .before .before .before .task3 .given .1) .1) }
+
+array-set-from-remappers-2 : tie.Need-array-set-from-remappers-2 Inv-loop μ-loop
+array-set-from-remappers-2 c = segments-sound _ _ _ _ _ _ _ _ _ _ _ _ (c .before .before .before .before .before .before .before .before .before .before .before .before .before .before .before .before .before .before .before .before .before .before .before .before .loop .inv (c .before .before .before .before .before .before .before .before .before .before .before .before .before .before .before .before .before .before .before .before .before .before .before .before .before .before .before .before .before .before .before .before .before .before .before .before .pre .calls) (c .before .before .before .before .before .before .before .before .before .before .before .before .before .before .before .before .before .before .before .before .before .before .before .before .before .before .before .before .before .before .before .before .before .before .before .before .pre .grown)) (c .before .before .before .before .before .before .before .before .before .before .before .before .before .before .before .before .before .before .before .before .before .if2 .left) (c .before .before .before .before .before .before .before .before .before .before .before .before .before .before .before .before .before .before .before .before .before .before .before .goes-on .ensures .on (c .before .before .before .before .before .before .before .before .before .before .before .before .before .before .before .before .before .before .before .before .before .before .if1 .taken) .0) _ _ (c .before .before .before .before .before .before .before .before .before .before .before .before .before .before .before .before .before .hear .ensures) _ _ (c .before .before .before .before .before .before .before .before .before .before .before .before .before .before .task3 .given .1) .1
+
 loop-less-8 : tie.Need-loop-less-8 Inv-loop μ-loop
-loop-less-8 c = less-heard _ _ _ (c .before .before .before .hear .ensures .ahead) (c .before .before .before .hear .ensures .taken)
+loop-less-8 c = less-told _ _ _ _ (c .before .before .before .before .before .tell5 .ensures .1) (c .before .before .before .before .before .before .before .before .before .before .before .before .before .before .before .before .before .hear .ensures .ahead) (c .before .before .before .before .before .before .before .before .before .before .before .before .before .before .before .before .before .hear .ensures .taken)
 
 loop-again-8 : tie.Need-loop-again-8 Inv-loop μ-loop
-loop-again-8 c = λ calls g. going-part _ _ _ _ _ _ _ _ _ _ _ _ (c .before .before .before .before .before .before .before .before .before .before .loop .inv calls g) (c .before .before .before .before .before .before .before .if2 .left) (c .before .before .before .before .before .before .before .before .before .goes-on .ensures .on (c .before .before .before .before .before .before .before .before .if1 .taken) .0) _ _ (c .before .before .before .hear .ensures) (c .enum-told .given .1)
+loop-again-8 c = λ calls g. going-segments _ _ _ _ _ _ _ _ _ _ _ _ (c .before .before .before .before .before .before .before .before .before .before .before .before .before .before .before .before .before .before .before .before .before .before .before .before .loop .inv calls g) (c .before .before .before .before .before .before .before .before .before .before .before .before .before .before .before .before .before .before .before .before .before .if2 .left) (c .before .before .before .before .before .before .before .before .before .before .before .before .before .before .before .before .before .before .before .before .before .before .before .goes-on .ensures .on (c .before .before .before .before .before .before .before .before .before .before .before .before .before .before .before .before .before .before .before .before .before .before .if1 .taken) .0) _ _ (c .before .before .before .before .before .before .before .before .before .before .before .before .before .before .before .before .before .hear .ensures) _ _ (c .before .before .before .before .before .before .before .before .before .before .before .before .before .before .task3 .given .1) _ (c .before .before .before .before .before .before .before .cut .result) _ _ (cuts _ _ (c .before .before .before .before .before .before .before .before .before .before .before .on-segments .result) (c .before .before .before .before .before .before .before .before .before .before .before .on-segments .ensures) _ (c .before .before .before .before .before .before .before .before .before .change3 .given .1) (c .before .before .before .before .before .before .before .cut .result) (c .before .before .before .before .before .before .before .cut .ensures)) (c .before .before .before .before .before .tell5 .ensures .0) (c .before .before .before .before .before .tell5 .ensures .1) (room _ _ 25 _ (c .before .before .before .before .before .before .before .before .before .before .before .before .before .before .before .before .before .before .before .before .has-room .ensures) (c .before .before .before .before .before .before .before .before .before .before .before .before .before .before .before .before .before .before .before .if3 .left))
+
+enum-told-4 : tie.Need-enum-told-4 Inv-loop μ-loop
+enum-told-4 c = search needs
+
+loop-less-9 : tie.Need-loop-less-9 Inv-loop μ-loop
+loop-less-9 c = less-told _ _ _ _ (c .before .before .before .before .tell5 .ensures .1) (c .before .before .before .before .before .before .before .before .before .before .before .before .before .before .before .before .hear .ensures .ahead) (c .before .before .before .before .before .before .before .before .before .before .before .before .before .before .before .before .hear .ensures .taken)
+
+loop-again-9 : tie.Need-loop-again-9 Inv-loop μ-loop
+loop-again-9 c = λ calls g. going-same _ _ _ _ _ _ _ _ _ _ _ _ (c .before .before .before .before .before .before .before .before .before .before .before .before .before .before .before .before .before .before .before .before .before .before .before .loop .inv calls g) (c .before .before .before .before .before .before .before .before .before .before .before .before .before .before .before .before .before .before .before .before .if2 .left) (c .before .before .before .before .before .before .before .before .before .before .before .before .before .before .before .before .before .before .before .before .before .before .goes-on .ensures .on (c .before .before .before .before .before .before .before .before .before .before .before .before .before .before .before .before .before .before .before .before .before .if1 .taken) .0) _ _ (c .before .before .before .before .before .before .before .before .before .before .before .before .before .before .before .before .hear .ensures) _ _ (c .before .before .before .before .before .before .before .before .before .before .before .before .before .task3 .given .1) _ _ _ _ (refused-same _ _ (c .before .before .before .before .before .before .cut .result) (cuts _ _ (c .before .before .before .before .before .before .before .before .before .before .on-segments .result) (c .before .before .before .before .before .before .before .before .before .before .on-segments .ensures) _ (c .before .before .before .before .before .before .before .before .change3 .given .1) (c .before .before .before .before .before .before .cut .result) (c .before .before .before .before .before .before .cut .ensures)) _ (c .enum-told4 .given .1)) (c .before .before .before .before .tell5 .ensures .0) (c .before .before .before .before .tell5 .ensures .1) (room _ _ 25 _ (c .before .before .before .before .before .before .before .before .before .before .before .before .before .before .before .before .before .before .before .has-room .ensures) (c .before .before .before .before .before .before .before .before .before .before .before .before .before .before .before .before .before .before .if3 .left))
+
+enum-known-task-4 : tie.Need-enum-known-task-4 Inv-loop μ-loop
+enum-known-task-4 c = search needs
+
+loop-less-10 : tie.Need-loop-less-10 Inv-loop μ-loop
+loop-less-10 c = less-heard _ _ _ (c .before .before .before .before .hear .ensures .ahead) (c .before .before .before .before .hear .ensures .taken)
+
+loop-again-10 : tie.Need-loop-again-10 Inv-loop μ-loop
+loop-again-10 c = λ calls g. going-owed _ _ _ _ _ _ _ _ _ _ _ _ (c .before .before .before .before .before .before .before .before .before .before .before .loop .inv calls g) (c .before .before .before .before .before .before .before .before .if2 .left) (c .before .before .before .before .before .before .before .before .before .before .goes-on .ensures .on (c .before .before .before .before .before .before .before .before .before .if1 .taken) .0) _ _ (c .before .before .before .before .hear .ensures) _ (c .before .task4 .given .1)
+
+enum-told-5 : tie.Need-enum-told-5 Inv-loop μ-loop
+enum-told-5 c = search needs
+
+loop-less-11 : tie.Need-loop-less-11 Inv-loop μ-loop
+loop-less-11 c = less-heard _ _ _ (c .before .before .before .hear .ensures .ahead) (c .before .before .before .hear .ensures .taken)
+
+loop-again-11 : tie.Need-loop-again-11 Inv-loop μ-loop
+loop-again-11 c = λ calls g. going-part _ _ _ _ _ _ _ _ _ _ _ _ (c .before .before .before .before .before .before .before .before .before .before .loop .inv calls g) (c .before .before .before .before .before .before .before .if2 .left) (c .before .before .before .before .before .before .before .before .before .goes-on .ensures .on (c .before .before .before .before .before .before .before .before .if1 .taken) .0) _ _ (c .before .before .before .hear .ensures) (c .enum-told5 .given .1)
 
 same-length : tie.Need-same-length Inv-loop μ-loop
 same-length c = going-room _ _ _ _ _ _ _ _ _ _ _ _ (c .before .before .loop .inv (c .before .before .before .before .before .before .before .before .before .before .before .before .before .before .pre .calls) (c .before .before .before .before .before .before .before .before .before .before .before .before .before .before .pre .grown))
@@ -226,18 +273,34 @@ feed-spec =
     tell-requires-3
     loop-less-5
     loop-again-5
-    apply-requires
+    enum-known-change-2
+    insert-segment-requires
+    tell-requires-4
+    enum-told
     mul-remappers
     array-set-from-remappers
-    tell-requires-4
     loop-less-6
     loop-again-6
-    enum-known-task-4
+    enum-told-2
     loop-less-7
     loop-again-7
-    enum-told
+    enum-known-change-3
+    cut-requires
+    tell-requires-5
+    enum-told-3
+    mul-remappers-2
+    array-set-from-remappers-2
     loop-less-8
     loop-again-8
+    enum-told-4
+    loop-less-9
+    loop-again-9
+    enum-known-task-4
+    loop-less-10
+    loop-again-10
+    enum-told-5
+    loop-less-11
+    loop-again-11
     same-length
     same-length-2
     same-length-3
