@@ -61,6 +61,14 @@ module _ (r : Remapper) (prev at : ℕ) (done ts : List Segment) (w : Zip r prev
       go [] c b e = sym e
       go (x ∷ q) c b e = absurd (omega (arith, c .0, b x (omega (arith, hit-same x))))
 
+  -- what is next is a slot, or none
+  pub zip-at : at ≤ 64
+  zip-at = go (w .left) (w .here) left-below
+    where
+      go : (q : List ℕ) → Chain (r .links) at q 64 → ((z : ℕ) → 1 ≤ occ z q → z < 64) → at ≤ 64
+      go [] c b = omega arith
+      go (x ∷ q) c b = omega (arith, c .0, b x (omega (arith, hit-same x)))
+
   -- one more
   pub zip-open : at < 64 → (us : List Segment) × (ts ≡ getD (r .segments) at noSegment ∷ us)
   zip-open l = go (w .left) (w .here) (w .read-left)

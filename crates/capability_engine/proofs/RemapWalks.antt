@@ -21,7 +21,7 @@ use Rattle.capability_engine.specs.RemapHeld.{noSegment, Holds, Zip, ahe
 use Rattle.capability_engine.specs.RemapAsking.{leftOf, okFor, askStep, askAll, nothingAsked, onward, walked, isTwo, Trimmable, orderAt, orderStep, unordered}
 use Rattle.capability_engine.specs.RemapListing.{Some}
 use Rattle.capability_engine.proofs.RemapParts.{both, bad-step}
-use Rattle.capability_engine.proofs.RemapPlaces.{zip-small, zip-start, zip-ahead, zip-end, zip-open, zip-holds, zip-skip}
+use Rattle.capability_engine.proofs.RemapPlaces.{zip-small, zip-at, zip-start, zip-ahead, zip-end, zip-open, zip-holds, zip-skip}
 
 abbrev pub segment-at : Remapper → ℕ → Segment
 segment-at r at = getD (r .segments) at noSegment
@@ -69,6 +69,10 @@ module _ (r : Remapper) (at : ℕ) (ts : List Segment) (w : Some r at ts) where
         zip-ahead r (o .on .prev) (next-of r at) (o .on .done) (o .more) (o .on .zip),
         ap length (o .are),
       )
+
+  -- a link names a slot, or none
+  pub some-next : at < 64 → next-of r at ≤ 64
+  some-next l = let o = some-open l in zip-at r (o .on .prev) (next-of r at) (o .on .done) (o .more) (o .on .zip)
 
   pub some-last : at < 64 → ahead (r .links) 64 < ahead (r .links) at
   some-last l =
@@ -296,6 +300,9 @@ module _ (r : Remapper) (s : Segment) (prev at on : ℕ) (ss : List Segment) (w 
   pub seeks-less : ahead (r .links) (next-of r on) < ahead (r .links) on
   seeks-less = puts-less r s prev on ss spot l
 
+  pub seeks-next : next-of r on ≤ 64
+  seeks-next = let p = spot in some-next r on (p .left) (record { prev = prev; done = p .done; zip = p .zip }) l
+
   pub seeks-last : ahead (r .links) 64 < ahead (r .links) on
   seeks-last = let p = spot in some-last r on (p .left) (record { prev = prev; done = p .done; zip = p .zip }) l
 
@@ -353,6 +360,9 @@ module _ (r : Remapper) (p : Span) (prev at : ℕ) (ss : List Segment) (w : Trim
         goal = sym (ap (λ q. w .done ++ walked p q) (o .1)) ∙ w .goal;
         room = λ e. omega (arith, w .room (ap (any (λ s. isTwo (leftOf p s))) (o .1) ∙ e), ap length (o .1));
       }
+
+  pub trims-next : at < 64 → next-of r at ≤ 64
+  trims-next l = some-next r at (w .left) (record { prev = prev; done = w .done; zip = w .zip }) l
 
   pub trims-less : (r2 : Remapper) (prev2 : ℕ) (done2 : List Segment) (l : at < 64) → Zip r2 prev2 (next-of r at) done2 (trims-cut l .more)
       → ahead (r2 .links) (next-of r at) < ahead (r .links) at

@@ -28,7 +28,7 @@ ghost use Rattle.capability_engine.specs.RemapListing.{Copied, IsAhead, 
 
 pub struct Remapper {
     pub segments: [Segment; 64],
-    pub links: [usize; 64],
+    pub links: [u8; 64],
     pub free: [usize; 64],
     pub list: FreeList,
     pub head: usize,
@@ -100,12 +100,13 @@ pub(crate) struct Found {
 
 const MOST: u64 = 18446744073709551615;
 
-// The link of slot prev, or the head where prev is none, becomes to.
-fn join(links: &mut [usize; 64], head: usize, prev: usize, to: usize) -> usize
+// The link of slot prev, or the head where prev is none, becomes to. A link fits a byte.
+fn join(links: &mut [u8; 64], head: usize, prev: usize, to: usize) -> usize
+    requires { ⌜ to ≤ 64 ⌝ }
     ensures { λ r. ⌜ (now (links .exit) ≡ joinLinks (now (links .entry)) prev to) × (r ≡ joinHead head prev to) ⌝ }
 {
     if prev < 64 {
-        links[prev] = to;
+        links[prev] = to as u8;
         head
     } else {
         to
@@ -588,7 +589,7 @@ impl Remapper {
             repeat: 0,
         };
         let segments = [none; 64];
-        let links = [64usize; 64];
+        let links = [64u8; 64];
         let mut free = [0usize; 64];
         let list = FreeList::new(&mut free);
         Remapper {
@@ -609,7 +610,7 @@ impl Remapper {
         let list = out.list;
         let x = list.head;
         out.segments[x] = s;
-        out.links[x] = at;
+        out.links[x] = at as u8;
         let head = out.head;
         let first = join(&mut out.links, head, prev, x);
         out.head = first;
@@ -640,7 +641,7 @@ impl Remapper {
             if end.0 < t.gpa.0 {
                 asking = 64;
             } else {
-                asking = out.links[asking];
+                asking = out.links[asking] as usize;
             }
         }
         if and(new, is_identity(s.hpa, start, s.repeat)) {
@@ -666,13 +667,13 @@ impl Remapper {
                 on = 64;
             } else {
                 prev = on;
-                at = out.links[on];
+                at = out.links[on] as usize;
                 on = at;
             }
         }
         let x = list.head;
         out.segments[x] = s;
-        out.links[x] = at;
+        out.links[x] = at as u8;
         let head = out.head;
         let first = join(&mut out.links, head, prev, x);
         out.head = first;
@@ -696,7 +697,7 @@ impl Remapper {
         while asking < 64 {
             let s = out.segments[asking];
             f = find_one(span, f, s);
-            asking = out.links[asking];
+            asking = out.links[asking] as usize;
         }
         let used = out.list;
         let answer = can_cut(span, f, used.count);
@@ -710,7 +711,7 @@ impl Remapper {
         let mut at = out.head;
         while at < 64 {
             let s = out.segments[at];
-            let next = out.links[at];
+            let next = out.links[at] as usize;
             let l = leave(span, s);
             match l {
                 Left::Gone => {
@@ -768,7 +769,7 @@ impl Remapper {
             if e < g {
                 return Answer::Accepted(0);
             }
-            at = self.links[at];
+            at = self.links[at] as usize;
         }
         Answer::Accepted(0)
     }
@@ -847,7 +848,7 @@ impl Remapper {
         while at < 64 {
             let s = self.segments[at];
             put_segment(out, n, s);
-            at = self.links[at];
+            at = self.links[at] as usize;
             n += 1;
         }
         n
@@ -862,7 +863,7 @@ impl RemapperSegmentIterator {
         let at = self.next_segment;
         if at < 64 {
             let s = remapper.segments[at];
-            let next = remapper.links[at];
+            let next = remapper.links[at] as usize;
             return NextSegment::At(s, RemapperSegmentIterator { next_segment: next });
         }
         NextSegment::End

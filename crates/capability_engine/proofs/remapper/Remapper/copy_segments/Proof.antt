@@ -25,11 +25,11 @@ element-copy-out-s c = search needs
 put-segment-requires : tie.Need-put-segment-requires Inv-loop μ-loop
 put-segment-requires c κs = copying-fits _ _ _ _ _ _ (c .before .before .before .loop .inv (c .before .before .before .before .before .pre .0 .0) (c .before .before .before .before .before .pre .0 .1)) (c .before .before .loop-test .taken)
 
-mul-at : tie.Need-mul-at Inv-loop μ-loop
-mul-at c = search needs
-
 element-copy-out-at : tie.Need-element-copy-out-at Inv-loop μ-loop
 element-copy-out-at c = search needs
+
+cast-at : tie.Need-cast-at Inv-loop μ-loop
+cast-at c = search needs
 
 add-n : tie.Need-add-n Inv-loop μ-loop
 add-n c = record { fits = omega (arith, copying-few _ _ _ _ _ _ (c .before .before .before .before .before .before .before .loop .inv (c .before .before .before .before .before .before .before .before .before .pre .0 .0) (c .before .before .before .before .before .before .before .before .before .pre .0 .1)) (c .before .before .before .before .before .before .loop-test .taken)) }
@@ -56,8 +56,8 @@ copy-segments-spec =
     mul-s
     element-copy-out-s
     put-segment-requires
-    mul-at
     element-copy-out-at
+    cast-at
     add-n
     loop-less
     loop-again

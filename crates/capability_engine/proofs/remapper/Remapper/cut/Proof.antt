@@ -1,8 +1,9 @@
+use native.Mathlib.Omega.{arith}
 use mathlib.Core.Path.{sym, _∙_, subst}
 use mathlib.Core.List.{List}
 use Rattle.definitions.specs.declared.remapper.Segment.{Segment}
 use Rattle.capability_engine.specs.RemapHeld.{Holds, ahead}
-use Rattle.capability_engine.proofs.RemapWalks.{some-open, some-less, Trims, trims-start, trims-cut, trims-less, trims-end, trims-gone, trims-kept, trims-two, trims-room}
+use Rattle.capability_engine.proofs.RemapWalks.{some-open, some-less, some-next, Trims, trims-start, trims-cut, trims-next, trims-less, trims-end, trims-gone, trims-kept, trims-two, trims-room}
 use Rattle.capability_engine.proofs.RemapParts.{GoodLeft, left-good}
 use Rattle.capability_engine.proofs.RemapPlaces.{zip-put, zip-remove}
 use Rattle.capability_engine.proofs.RemapCuts.{Finds, finds-start, finds-on, finds-end, cut-refused, cut-trims, cut-two, cut-end, cut-good, cut-small, cut-half}
@@ -37,11 +38,11 @@ element-copy-out-s c = search needs
 find-one-requires : tie.Need-find-one-requires Inv-loop μ-loop Inv-loop2 μ-loop2
 find-one-requires c κs = let w = (c .before .before .loop .inv (c .before .before .before .before .pre .1 .0) (c .before .before .before .before .pre .1 .1) .asks) in (some-open _ _ (w .0) (w .1) (c .before .loop-test .taken) .good, c .before .before .before .before .pre .0)
 
-mul-asking : tie.Need-mul-asking Inv-loop μ-loop Inv-loop2 μ-loop2
-mul-asking c = search needs
-
 element-copy-out-asking : tie.Need-element-copy-out-asking Inv-loop μ-loop Inv-loop2 μ-loop2
 element-copy-out-asking c = search needs
+
+cast-asking : tie.Need-cast-asking Inv-loop μ-loop Inv-loop2 μ-loop2
+cast-asking c = let w = c .before .before .before .before .loop .inv (c .before .before .before .before .before .before .pre .1 .0) (c .before .before .before .before .before .before .pre .1 .1) .asks in record { fits = omega (arith, some-next _ _ (w .0) (w .1) (c .before .before .before .loop-test .taken)) }
 
 loop-less : tie.Need-loop-less Inv-loop μ-loop Inv-loop2 μ-loop2
 loop-less c = let w = (c .before .before .before .before .loop .inv (c .before .before .before .before .before .before .pre .1 .0) (c .before .before .before .before .before .before .pre .1 .1) .asks) in some-less _ _ (w .0) (w .1) (c .before .before .before .loop-test .taken)
@@ -70,11 +71,11 @@ mul-s-2 c = search needs
 element-copy-out-s-2 : tie.Need-element-copy-out-s-2 Inv-loop μ-loop Inv-loop2 μ-loop2
 element-copy-out-s-2 c = search needs
 
-mul-next : tie.Need-mul-next Inv-loop μ-loop Inv-loop2 μ-loop2
-mul-next c = search needs
-
 element-copy-out-next : tie.Need-element-copy-out-next Inv-loop μ-loop Inv-loop2 μ-loop2
 element-copy-out-next c = search needs
+
+cast-next : tie.Need-cast-next Inv-loop μ-loop Inv-loop2 μ-loop2
+cast-next c = record { fits = omega (arith, trims-next _ _ _ _ _ (c .before .before .before .loop2 .inv (c .before .before .before .before .before .before .before .before .before .before .before .pre .1 .0) (c .before .before .before .before .before .before .before .before .before .before .before .pre .1 .1)) (c .before .before .loop2-test .taken)) }
 
 leave-requires : tie.Need-leave-requires Inv-loop μ-loop Inv-loop2 μ-loop2
 leave-requires c κs = let w = c .before .before .before .loop2 .inv (c .before .before .before .before .before .before .before .before .before .before .before .pre .1 .0) (c .before .before .before .before .before .before .before .before .before .before .before .pre .1 .1) in let d = trims-cut _ _ _ _ _ w (c .before .before .loop2-test .taken) in (d .good, c .before .before .before .before .before .before .before .before .before .before .before .pre .0, d .ok)
@@ -83,7 +84,7 @@ enum-told-3 : tie.Need-enum-told-3 Inv-loop μ-loop Inv-loop2 μ-loop2
 enum-told-3 c = search needs
 
 join-requires : tie.Need-join-requires Inv-loop μ-loop Inv-loop2 μ-loop2
-join-requires c κs = search needs
+join-requires c κs = trims-next _ _ _ _ _ (c .before .before .before .before .before .before .before .loop2 .inv (c .before .before .before .before .before .before .before .before .before .before .before .before .before .before .before .pre .1 .0) (c .before .before .before .before .before .before .before .before .before .before .before .before .before .before .before .pre .1 .1)) (c .before .before .before .before .before .before .loop2-test .taken)
 
 free-slot-requires : tie.Need-free-slot-requires Inv-loop μ-loop Inv-loop2 μ-loop2
 free-slot-requires c κs = let w = c .before .before .before .before .before .before .before .before .before .before .loop2 .inv (c .before .before .before .before .before .before .before .before .before .before .before .before .before .before .before .before .before .before .pre .1 .0) (c .before .before .before .before .before .before .before .before .before .before .before .before .before .before .before .before .before .before .pre .1 .1) in record { n = 64; calls = w .zip .owns .calls; grown = w .zip .owns .grown }
@@ -149,8 +150,8 @@ cut-spec =
     mul-s
     element-copy-out-s
     find-one-requires
-    mul-asking
     element-copy-out-asking
+    cast-asking
     loop-less
     loop-again
     can-cut-requires
@@ -160,8 +161,8 @@ cut-spec =
     loop2-holds
     mul-s-2
     element-copy-out-s-2
-    mul-next
     element-copy-out-next
+    cast-next
     leave-requires
     enum-told-3
     join-requires

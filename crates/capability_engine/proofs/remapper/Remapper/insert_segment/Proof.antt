@@ -3,8 +3,8 @@ use mathlib.Core.List.{List}
 use Rattle.definitions.specs.declared.remapper.Segment.{Segment}
 use Rattle.capability_engine.specs.RemapHeld.{Holds, ahead}
 use Rattle.capability_engine.proofs.RemapCalls.{Aliases, aliases-start, aliases-stop, aliases-on, insert-aliased, insert-same, insert-full, insert-room, insert-puts}
-use Rattle.capability_engine.proofs.RemapWalks.{some-open, some-less, some-last, meets-hit, Seeks, seeks-start, seeks-on, seeks-stop, seeks-less, seeks-last}
-use Rattle.capability_engine.proofs.RemapPlaces.{zip-free, zip-insert}
+use Rattle.capability_engine.proofs.RemapWalks.{some-open, some-less, some-next, some-last, meets-hit, Seeks, seeks-start, seeks-on, seeks-stop, seeks-less, seeks-next, seeks-last}
+use Rattle.capability_engine.proofs.RemapPlaces.{zip-at, zip-free, zip-insert}
 use native.Mathlib.Omega.{arith}
 use borrow.Author.Needs.{needs}
 use Rattle.capability_engine.proofs.remapper.Remapper.insert_segment.Statement.{statement}
@@ -49,11 +49,11 @@ loop-less c = let m = (c .before .before .before .before .before .before .before
 loop-again : tie.Need-loop-again Inv-loop μ-loop Inv-loop2 μ-loop2
 loop-again c = λ ss h. aliases-stop _ _ _ _ _ ss (c .before .before .before .before .before .before .before .loop .inv ss h) (c .before .before .before .before .before .before .loop-test .taken) (sym (c .before .before .before .before .is-hit .ensures) ∙ c .before .before .before .if1 .left) (c .if2 .taken)
 
-mul-asking : tie.Need-mul-asking Inv-loop μ-loop Inv-loop2 μ-loop2
-mul-asking c = search needs
-
 element-copy-out-asking : tie.Need-element-copy-out-asking Inv-loop μ-loop Inv-loop2 μ-loop2
 element-copy-out-asking c = search needs
+
+cast-asking : tie.Need-cast-asking Inv-loop μ-loop Inv-loop2 μ-loop2
+cast-asking c = let m = (c .before .before .before .before .before .before .before .before .loop .inv (c .before .before .before .before .before .before .before .before .before .before .before .before .pre .1 .0) (c .before .before .before .before .before .before .before .before .before .before .before .before .pre .1 .1) .asks (c .before .before .before .before .before .before .before .loop-test .taken) .1) in record { fits = omega (arith, some-next _ _ (m .0) (m .1) (c .before .before .before .before .before .before .before .loop-test .taken)) }
 
 loop-less-2 : tie.Need-loop-less-2 Inv-loop μ-loop Inv-loop2 μ-loop2
 loop-less-2 c = let m = (c .before .before .before .before .before .before .before .before .loop .inv (c .before .before .before .before .before .before .before .before .before .before .before .before .pre .1 .0) (c .before .before .before .before .before .before .before .before .before .before .before .before .pre .1 .1) .asks (c .before .before .before .before .before .before .before .loop-test .taken) .1) in some-less _ _ (m .0) (m .1) (c .before .before .before .before .before .before .before .loop-test .taken)
@@ -91,11 +91,11 @@ loop2-less c = seeks-last _ _ _ _ _ _ (c .before .before .before .before .loop2 
 loop2-again : tie.Need-loop2-again Inv-loop μ-loop Inv-loop2 μ-loop2
 loop2-again c = λ ss h. seeks-stop _ _ _ _ _ ss (c .before .before .before .before .loop2 .inv ss h) (c .before .before .before .loop2-test .taken) (c .if5 .taken)
 
-mul-at : tie.Need-mul-at Inv-loop μ-loop Inv-loop2 μ-loop2
-mul-at c = search needs
-
 element-copy-out-at : tie.Need-element-copy-out-at Inv-loop μ-loop Inv-loop2 μ-loop2
 element-copy-out-at c = search needs
+
+cast-at : tie.Need-cast-at Inv-loop μ-loop Inv-loop2 μ-loop2
+cast-at c = record { fits = omega (arith, seeks-next _ _ _ _ _ _ (c .before .before .before .before .before .loop2 .inv (c .before .before .before .before .before .before .before .before .before .before .before .before .before .before .before .before .before .before .pre .1 .0) (c .before .before .before .before .before .before .before .before .before .before .before .before .before .before .before .before .before .before .pre .1 .1)) (c .before .before .before .before .loop2-test .taken)) }
 
 loop2-less-2 : tie.Need-loop2-less-2 Inv-loop μ-loop Inv-loop2 μ-loop2
 loop2-less-2 c = seeks-less _ _ _ _ _ _ (c .before .before .before .before .before .loop2 .inv (c .before .before .before .before .before .before .before .before .before .before .before .before .before .before .before .before .before .before .pre .1 .0) (c .before .before .before .before .before .before .before .before .before .before .before .before .before .before .before .before .before .before .pre .1 .1)) (c .before .before .before .before .loop2-test .taken)
@@ -109,14 +109,14 @@ element-set-from-s c = let ss = c .before .before .before .before .before .befor
 mul-s : tie.Need-mul-s Inv-loop μ-loop Inv-loop2 μ-loop2
 mul-s c = record { fits = let h = element-set-from-s c in omega arith }
 
-mul-out : tie.Need-mul-out Inv-loop μ-loop Inv-loop2 μ-loop2
-mul-out c = record { fits = let h = element-set-from-s c in omega arith }
+cast-out : tie.Need-cast-out Inv-loop μ-loop Inv-loop2 μ-loop2
+cast-out c = record { fits = omega (arith, zip-at _ _ _ _ _ (c .before .loop2 .inv (c .before .before .before .before .before .before .before .before .before .before .before .before .before .before .pre .1 .0) (c .before .before .before .before .before .before .before .before .before .before .before .before .before .before .pre .1 .1) .puts .zip)) }
 
 element-write-out : tie.Need-element-write-out Inv-loop μ-loop Inv-loop2 μ-loop2
 element-write-out c = element-set-from-s c
 
 join-requires : tie.Need-join-requires Inv-loop μ-loop Inv-loop2 μ-loop2
-join-requires c κs = search needs
+join-requires c κs = let ss = c .before .before .before .before .before .before .before .before .before .before .before .before .before .before .before .pre .1 .0 in let h = c .before .before .before .before .before .before .before .before .before .before .before .before .before .before .before .pre .1 .1 in let r = c .before .before .before .before .before .before .before .before .before .before .before .before .before .before .before .pre .1 .2 in let w = c .before .before .loop2 .inv ss h in let x = zip-free _ _ _ _ _ (w .puts .zip) (omega (arith, w .puts .count, insert-room _ _ _ ss h _ (c .before .before .before .before .before .before .before .before .before .before .before .before .before .span-end .ensures) (c .before .before .before .before .before .before .before .before .before .before .before .loop .inv ss h .apart (c .before .before .before .before .before .before .before .before .before .before .loop-test .left)) _ (c .before .before .before .before .before .before .before .before .before .is-identity .ensures) (sym (c .before .before .before .before .before .before .before .before .and .ensures) ∙ c .before .before .before .before .before .before .before .if3 .left) _ (c .before .before .before .before .and2 .ensures) r (c .before .before .before .if4 .left))) in omega arith
 
 take-slot-requires : tie.Need-take-slot-requires Inv-loop μ-loop Inv-loop2 μ-loop2
 take-slot-requires c κs = let w = c .before .before .before .before .loop2 .inv (c .before .before .before .before .before .before .before .before .before .before .before .before .before .before .before .before .before .pre .1 .0) (c .before .before .before .before .before .before .before .before .before .before .before .before .before .before .before .before .before .pre .1 .1) in record { n = 64; calls = w .puts .zip .owns .calls; grown = w .puts .zip .owns .grown }
@@ -141,8 +141,8 @@ insert-segment-spec =
     returns
     loop-less
     loop-again
-    mul-asking
     element-copy-out-asking
+    cast-asking
     loop-less-2
     loop-again-2
     is-identity-requires
@@ -155,13 +155,13 @@ insert-segment-spec =
     element-copy-out-t-2
     loop2-less
     loop2-again
-    mul-at
     element-copy-out-at
+    cast-at
     loop2-less-2
     loop2-again-2
     mul-s
     element-set-from-s
-    mul-out
+    cast-out
     element-write-out
     join-requires
     take-slot-requires

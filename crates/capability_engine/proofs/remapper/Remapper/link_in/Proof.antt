@@ -1,6 +1,5 @@
-use Rattle.capability_engine.proofs.RemapPlaces.{zip-free, zip-insert}
+use Rattle.capability_engine.proofs.RemapPlaces.{zip-at, zip-free, zip-insert}
 use native.Mathlib.Omega.{arith}
-use borrow.Author.Needs.{needs}
 use Rattle.capability_engine.proofs.remapper.Remapper.link_in.Statement.{statement}
 use Rattle.capability_engine.proofs.remapper.Remapper.link_in.Tie as tie
 
@@ -10,14 +9,14 @@ mul-s c = record { fits = let h = zip-free _ _ _ _ _ (c .before .pre .2) (c .bef
 element-set-from-s : tie.Need-element-set-from-s
 element-set-from-s c = zip-free _ _ _ _ _ (c .before .pre .2) (c .before .pre .3)
 
-mul-out : tie.Need-mul-out
-mul-out c = record { fits = let h = zip-free _ _ _ _ _ (c .before .pre .2) (c .before .pre .3) in omega arith }
+cast-out : tie.Need-cast-out
+cast-out c = record { fits = omega (arith, zip-at _ _ _ _ _ (c .before .pre .2)) }
 
 element-write-out : tie.Need-element-write-out
 element-write-out c = zip-free _ _ _ _ _ (c .before .pre .2) (c .before .pre .3)
 
 join-requires : tie.Need-join-requires
-join-requires c κs = search needs
+join-requires c κs = let x = zip-free _ _ _ _ _ (c .before .before .pre .2) (c .before .before .pre .3) in omega arith
 
 take-slot-requires : tie.Need-take-slot-requires
 take-slot-requires c κs = record { n = 64; calls = c .before .before .before .before .pre .2 .owns .calls; grown = c .before .before .before .before .pre .2 .owns .grown }
@@ -31,7 +30,7 @@ link-in-spec =
     (tie.spec
     mul-s
     element-set-from-s
-    mul-out
+    cast-out
     element-write-out
     join-requires
     take-slot-requires

@@ -46,11 +46,11 @@ returns-3 : tie.Need-returns-3 Inv-loop μ-loop
 unfolding guestUp
 returns-3 c = λ k h. overlap-says k _ _ (omega arith) false (meets-stop _ _ _ _ _ (c .before .before .before .before .before .loop .inv (k .segments) h) (c .before .before .before .before .loop-test .taken) (sym (c .before .before .is-hit .ensures) ∙ c .before .if2 .left) (c .if3 .taken))
 
-mul-at : tie.Need-mul-at Inv-loop μ-loop
-mul-at c = search needs
-
 element-copy-out-at : tie.Need-element-copy-out-at Inv-loop μ-loop
 element-copy-out-at c = search needs
+
+cast-at : tie.Need-cast-at Inv-loop μ-loop
+cast-at c = search needs
 
 loop-less : tie.Need-loop-less Inv-loop μ-loop
 loop-less c = let w = c .before .before .before .before .before .before .loop .inv (c .before .before .before .before .before .before .before .before .pre .0) (c .before .before .before .before .before .before .before .before .pre .1) in some-less _ _ (w .0) (w .1) (c .before .before .before .before .before .loop-test .taken)
@@ -77,8 +77,8 @@ overlaps-spec =
     is-hit-requires
     returns-2
     returns-3
-    mul-at
     element-copy-out-at
+    cast-at
     loop-less
     loop-again
     returns-4)

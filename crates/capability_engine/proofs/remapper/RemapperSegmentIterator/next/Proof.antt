@@ -11,11 +11,11 @@ mul-s c = search needs
 element-copy-out-s : tie.Need-element-copy-out-s
 element-copy-out-s c = search needs
 
-mul-next : tie.Need-mul-next
-mul-next c = search needs
-
 element-copy-out-next : tie.Need-element-copy-out-next
 element-copy-out-next c = search needs
+
+cast-next : tie.Need-cast-next
+cast-next c = search needs
 
 returns : tie.Need-returns
 returns c = λ ts w. comes-on _ _ ts w (c .before .before .if1 .taken)
@@ -25,4 +25,4 @@ returns-2 c = λ ts w. comes-end _ _ ts w (c .if1 .left)
 
 pub next-spec : {M : Type 1} → statement M
 next-spec =
-    tie.close (tie.spec mul-s element-copy-out-s mul-next element-copy-out-next returns returns-2)
+    tie.close (tie.spec mul-s element-copy-out-s element-copy-out-next cast-next returns returns-2)
