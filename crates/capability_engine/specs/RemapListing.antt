@@ -21,9 +21,11 @@ pub record Some (r : Remapper) (at : ℕ) (ts : List Segment) : Type 0 where
 abbrev pub Ahead : Remapper → RemapperSegmentIterator → List Segment → Type 0
 Ahead r c ts = Some r (c .«next_segment») ts
 
+-- it has some before it
 abbrev pub IsAhead : Remapper → RemapperSegmentIterator → Type 0
 IsAhead r c = (ts : List Segment) × Ahead r c ts
 
+-- a new cursor has all segments before it
 abbrev pub Starts : Remapper → RemapperSegmentIterator → Type 0
 Starts r c = (ss : List Segment) → Holds r ss → Ahead r c ss
 
@@ -32,6 +34,7 @@ abbrev pub Comes : Remapper → List Segment → NextSegment → Type 0
 Comes r [] n = n ≡ End
 Comes r (s ∷ ts) n = (d : RemapperSegmentIterator) × (n ≡ At s d) × Ahead r d ts
 
+-- a step comes to the first of them
 abbrev pub Steps : Remapper → RemapperSegmentIterator → NextSegment → Type 0
 Steps r c n = (ts : List Segment) → Ahead r c ts → Comes r ts n
 

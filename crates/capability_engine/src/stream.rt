@@ -3,14 +3,13 @@
 ghost use mathlib.Core.Path.{_≡_};
 ghost use mathlib.Core.Bool.{true};
 ghost use mathlib.Core.List.{map};
-ghost use Prim.Native.Nat.{ℕ, _+_, _*_, _<_, _≤_, _^_, min, max};
+ghost use Prim.Native.Nat.{_+_, _*_, _<_, _≤_, _^_, min, max};
 ghost use lib.ListN.{length, drop};
 ghost use lib.Seq.{sets};
 ghost use Rattle.definitions.specs.Tests.{if_then_else_, _=?_, host};
 ghost use Rattle.definitions.specs.Regions.{region, permissionOf};
 ghost use Rattle.definitions.specs.Stream.{sharedPart, identity, stream};
 ghost use Rattle.definitions.specs.Pages.{mappingGroup, permissionGroup, regionGroup, segmentGroup};
-ghost use Rattle.capability_engine.specs.PoolWords.{regionAt};
 ghost use Rattle.capability_engine.specs.PoolChain.{slots, Listed, Walkable, storedAt};
 ghost use Rattle.capability_engine.specs.RegionListing.{permissionsFrom};
 ghost use Rattle.capability_engine.specs.SegmentWords.{segmentsFrom, segmentAt};
@@ -23,14 +22,12 @@ use crate::region::RegionTracker;
 use crate::region::load;
 use crate::region::save;
 use crate::remapper::put_segment;
-use definitions::Counters;
 use definitions::GuestAddr;
 use definitions::HostAddr;
 use definitions::Mapping;
 use definitions::MemoryPermission;
 use definitions::Region;
 use definitions::Segment;
-use definitions::Values;
 
 // Where a read of the stream stands.
 pub(crate) struct RemapCursor {
