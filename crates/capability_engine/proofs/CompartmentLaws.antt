@@ -36,7 +36,7 @@ use Rattle.capability_engine.specs.declared.region.RegionTracker.{Region
 use Rattle.capability_engine.specs.PoolWords.{regionAt}
 use Rattle.capability_engine.specs.PoolChain.{Seg, cnt, slots, records, Listed, Walkable, storedAt}
 use Rattle.capability_engine.specs.PoolOwn.{Heap, heap, freeOf, Own, mineOf}
-use Rattle.capability_engine.specs.RegionAsks.{Tracked, Untouched, Moved, Changes}
+use Rattle.capability_engine.specs.RegionAsks.{Tracked, Untouched, Moved, Changes, Countable}
 use Rattle.capability_engine.specs.StreamCursor.{Whole}
 use Rattle.capability_engine.specs.CompartmentGrown.{Holding, Holds, inLists, allLong, Trackers, Pooled}
 use Rattle.capability_engine.specs.CompartmentSteps.{SamePool, PoolAnswers}
@@ -250,6 +250,9 @@ module _ (words nx links gens : List ℕ) (t : Trackers) (calls : List Call) (g 
 
   pub grown-whole : Whole nx words first
   grown-whole = whole-of (here .listed) (here .shown) (regions-runs (compartment (after calls) k .values)) (regions-end (compartment (after calls) k .values)) .0
+
+  pub grown-count : Countable nx words first
+  grown-count = record { listed = grown-walk; ordered = grown-whole .sound .ordered }
 
   used-is : used (after calls) ≡ 1024 - length (freeOf pool)
   used-is = holds-used nx words (t .list) (after calls) (g .holds) ∙ (omega (arith, g .total))

@@ -1,5 +1,5 @@
--- The questions of an add and of a remove, asked of a part of the list: what ends below the range, and what begins above it,
--- changes no answer.
+-- The questions of an add and of a remove, and a count, asked of a part of the list: what ends below the range, and what begins above
+-- it, changes no answer.
 use Prim.Native.Nat.{ℕ, _-_, _≤_, _<_}
 use mathlib.Core.Path.{_≡_, refl, sym, ap, _∙_}
 use mathlib.Core.Bool.{Bool, true, false, not, _&&_, _||_}
@@ -18,8 +18,8 @@ use Rattle.definitions.proofs.Lists.{Ordered}
 use Rattle.definitions.proofs.RegionLaws.{ordered-from}
 use Rattle.definitions.proofs.RunLaws.{host-eq}
 use Rattle.capability_engine.specs.PoolWords.{regionAt}
-use Rattle.capability_engine.specs.PoolChain.{last, slots, records, storedAt, Listed, All}
-use Rattle.capability_engine.specs.RegionAsks.{lowEnough, gapFrom, gapHere, addStep, freesOne, removeStep, foldFrom, addBegin, removeBegin, AskableAt}
+use Rattle.capability_engine.specs.PoolChain.{last, slots, records, storedAt, Listed, All, SkipsBelow}
+use Rattle.capability_engine.specs.RegionAsks.{lowEnough, gapFrom, gapHere, addStep, freesOne, removeStep, foldFrom, addBegin, removeBegin, AskableAt, Countable, mostOf}
 use Rattle.capability_engine.specs.declared.region.AddAsk.{AddAsk}
 use Rattle.capability_engine.specs.declared.region.RemoveAsk.{RemoveAsk}
 use Rattle.capability_engine.specs.declared.region.Skipped.{Skipped}
@@ -155,6 +155,22 @@ module _ (a e : HostAddr) (k : ℕ) where
       ap (λ (x : RemoveAsk). foldFrom (removeStep a e k) x qs)
       (remove-over a e k ask r (meets-below a e r (omega arith)) (split-past a r (omega arith)) (split-past e r (omega arith)) (frees-below a e r (omega arith)) t (omega arith))
 
+-- the most holders of a list
+module _ (a e : HostAddr) where
+  most-out : (n : ℕ) (r : Region) → meets a e r ≡ false → mostOf a e n r ≡ n
+  unfolding mostOf
+  most-out n r d = rw d
+
+  most-front : (n : ℕ) (rs qs : List Region) → All (λ r. r .end .0 < a .0) rs → foldFrom (mostOf a e) n (rs ++ qs) ≡ foldFrom (mostOf a e) n qs
+  most-front n [] qs h = refl
+  most-front n (r ∷ rs) qs h =
+      ap (λ (m : ℕ). foldFrom (mostOf a e) m (rs ++ qs)) (most-out n r (meets-below a e r (omega (arith, h .0)))) ∙ most-front n rs qs (h .1)
+
+  most-rest : (n lo : ℕ) (rs : List Region) → Ordered lo rs → e .0 ≤ lo → foldFrom (mostOf a e) n rs ≡ n
+  most-rest n lo [] o l = refl
+  most-rest n lo (r ∷ rs) o l =
+      ap (λ (m : ℕ). foldFrom (mostOf a e) m rs) (most-out n r (meets-above a e r (omega (arith, o .0)))) ∙ most-rest n (r .end .0) rs (o .2) (omega (arith, o .0, o .1))
+
 -- ---- a walk
 
 cons-head : (x : ℕ) (xs : List ℕ) (y : ℕ) (ys : List ℕ) → x ∷ xs ≡ y ∷ ys → x ≡ y
@@ -177,19 +193,47 @@ module _ (nx ws : List ℕ) (cur : ℕ) (g : Listed nx cur (slots nx cur)) (l : 
   pub later-zero : Ordered 0 (storedAt nx ws (getD nx cur 0))
   later-zero = ordered-from (regionAt ws cur .end .0) 0 (storedAt nx ws (getD nx cur 0)) (omega arith) later-ordered
 
+-- what was passed, and what is left
+module _ (nx ws : List ℕ) (head : ℕ) (low : HostAddr) (s : Skipped) (c : SkipsBelow nx ws head low s) where
+  stored-parts : storedAt nx ws head ≡ records ws (c .done) ++ storedAt nx ws (s .next)
+  stored-parts = ap (records ws) (c .whole) ∙ records-append ws (c .done) (slots nx (s .next))
+
+  left-ordered : Ordered 0 (storedAt nx ws head) → Ordered 0 (storedAt nx ws (s .next))
+  left-ordered o = ordered-rest 0 (records ws (c .done)) (storedAt nx ws (s .next)) (rw stored-parts at o)
+
+-- a count
+module _ (a e : HostAddr) (nx ws : List ℕ) where
+  pub most-walk : (head : ℕ) (s : Skipped) → Countable nx ws head → SkipsBelow nx ws head a s
+      → Folding (mostOf a e) nx ws (s .next) 0 (foldFrom (mostOf a e) 0 (storedAt nx ws head)) × Ordered 0 (storedAt nx ws (s .next))
+  most-walk head s c p = (
+    record {
+      listed = p .listed;
+      all = sym (ap (foldFrom (mostOf a e) 0) (stored-parts nx ws head a s p) ∙ most-front a e 0 (records ws (p .done)) (storedAt nx ws (s .next)) (p .each));
+    },
+    left-ordered nx ws head a s p (c .ordered),
+  )
+
+  module _ (cur n w : ℕ) (r : Region) (f : Folding (mostOf a e) nx ws cur n w) (o : Ordered 0 (storedAt nx ws cur)) (l : cur < 1024) (er : r ≡ regionAt ws cur) where
+    pub most-on : (m : ℕ) → m ≡ mostOf a e n r → Folding (mostOf a e) nx ws (getD nx cur 0) m w × Ordered 0 (storedAt nx ws (getD nx cur 0))
+    most-on m em = (fold-turn (mostOf a e) nx ws cur n m w r f l er em, later-zero nx ws cur (f .listed) l o)
+
+    pub most-stop : e .0 ≤ r .start .0 → n ≡ w
+    most-stop h =
+        let ls : regionAt ws cur .start .0 < regionAt ws cur .end .0 = cur-some nx ws cur (f .listed) l o in
+        let i : r .start .0 ≡ regionAt ws cur .start .0 = rw er in
+        sym (most-rest a e n (regionAt ws cur .end .0) (storedAt nx ws (getD nx cur 0)) (later-ordered nx ws cur (f .listed) l o) (omega arith))
+        ∙ most-on n (sym (most-out a e n r (meets-above a e r h))) .0 .all
+
 module _ (a e : HostAddr) (k : ℕ) (nx ws : List ℕ) where
   module _ (head room : ℕ) (s : Skipped) (c : AskableAt nx ws head room a e s) where
-    stored-parts : storedAt nx ws head ≡ records ws (c .skipped .done) ++ storedAt nx ws (s .next)
-    stored-parts = ap (records ws) (c .skipped .whole) ∙ records-append ws (c .skipped .done) (slots nx (s .next))
-
     pub add-walk : Folding (addStep a e k) nx ws (s .next) (addBegin room a) (foldFrom (addStep a e k) (addBegin room a) (storedAt nx ws head)) × Ordered 0 (storedAt nx ws (s .next))
     add-walk = (
       record {
         listed = c .skipped .listed;
-        all = sym (ap (foldFrom (addStep a e k) (addBegin room a)) stored-parts
+        all = sym (ap (foldFrom (addStep a e k) (addBegin room a)) (stored-parts nx ws head (c .low) s (c .skipped))
             ∙ add-front a e k (addBegin room a) (c .low) (records ws (c .skipped .done)) (storedAt nx ws (s .next)) (c .skipped .each) (c .below) (c .under) refl);
       },
-      ordered-rest 0 (records ws (c .skipped .done)) (storedAt nx ws (s .next)) (rw stored-parts at (c .askable .ordered)),
+      left-ordered nx ws head (c .low) s (c .skipped) (c .askable .ordered),
     )
 
   module _ (cur : ℕ) (ask b w : AddAsk) (r : Region) (f : Folding (addStep a e k) nx ws cur ask w) (o : Ordered 0 (storedAt nx ws cur)) (l : cur < 1024) (er : r ≡ regionAt ws cur) (eb : b ≡ addStep a e k ask r) where

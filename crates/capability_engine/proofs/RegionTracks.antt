@@ -38,7 +38,7 @@ use Rattle.capability_engine.specs.PoolChain.{Seg, slots, records, Liste
 use Rattle.capability_engine.specs.PoolOwn.{Heap, heap, IsHeap, freeOf, Ready, Room, mineOf, recordsOf, Pass, Place}
 use Rattle.capability_engine.specs.RegionPasses.{lowered, changedOne, Small, AllSmall, CanAddBetween, CanRemoveBetween}
 use Rattle.capability_engine.specs.declared.region.Skipped.{Skipped}
-use Rattle.capability_engine.specs.RegionAsks.{Tracked, Untouched, Changes, Askable}
+use Rattle.capability_engine.specs.RegionAsks.{Tracked, Untouched, Changes, Askable, Countable}
 use Rattle.capability_engine.proofs.PoolLinks.{slots-are, seg-frame}
 use Rattle.capability_engine.proofs.PoolOwns.{seg-low, bit-le}
 use Rattle.capability_engine.proofs.PoolHeaps.{free-is}
@@ -291,6 +291,9 @@ module _ (nx ws : List ℕ) (fl : Heap) (head : ℕ) (t : Tracked nx ws fl head)
 
   pub tracked-askable : (room : ℕ) → room ≡ length (freeOf fl) → Askable nx ws head room
   tracked-askable room er = record { listed = tracked-walk; ordered = runs .ordered; few = omega (arith, few-in) }
+
+  pub tracked-count : Countable nx ws head
+  tracked-count = record { listed = tracked-walk; ordered = runs .ordered }
 
   module _ (a e : HostAddr) (k : ℕ) (room : ℕ) (er : room ≡ length (freeOf fl)) (le : e .0 ≤ 2 ^ 64) (ne : a .0 ≡ e .0 → ⊥) (r : Answer) (v : ℕ) (ev : r ≡ Accepted v) where
     yes-of : (x : Answer) → r ≡ x → accepted x ≡ true

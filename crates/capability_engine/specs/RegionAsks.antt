@@ -130,6 +130,11 @@ pub record AskableAt (nx ws : List ℕ) (head room : ℕ) (a e : HostAddr) (s : 
   pub under : low .0 ≤ e .0
   pub skipped : SkipsBelow nx ws head low s
 
+-- a list can be counted: its records are in order
+pub record Countable (nx ws : List ℕ) (head : ℕ) : Type 0 where
+  pub listed : Walkable nx ws head
+  pub ordered : Ordered 0 (storedAt nx ws head)
+
 -- the greater of n and the region's holders, if it shares an address with the range
 unfoldable pub mostOf : HostAddr → HostAddr → ℕ → Region → ℕ
 mostOf a e n r = if meets a e r then max n (r .values .refcount) else n

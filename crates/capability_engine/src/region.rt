@@ -26,7 +26,7 @@ ghost use Rattle.definitions.proofs.Lists.{fill, change, added, removed, peak};
 ghost use Rattle.capability_engine.specs.PoolChain.{Listed, Walkable, last, slots, records, storedAt, SkipsBelow, SkipsThrough};
 ghost use Rattle.capability_engine.specs.PoolOwn.{Heap, heap, recordsOf, Ready, Room, Pass, CanInsert, Inserts, InsertsRegion, PutsGap, CanRemove, Removes, Narrows, widened, CanWiden};
 ghost use Rattle.capability_engine.specs.RegionPasses.{lowered, startOf, changedOne, Small, AllSmall, CanApplyRemove, CanAddBetween, CanRemoveBetween};
-ghost use Rattle.capability_engine.specs.RegionAsks.{everyOf, lowEnough, gapFrom, gapHere, addStep, freesOne, removeStep, Tracked, AddsRegion, RemovesRegion, foldFrom, addBegin, removeBegin, AskableAt, mostOf};
+ghost use Rattle.capability_engine.specs.RegionAsks.{everyOf, lowEnough, gapFrom, gapHere, addStep, freesOne, removeStep, Tracked, AddsRegion, RemovesRegion, foldFrom, addBegin, removeBegin, AskableAt, Countable, mostOf};
 ghost use Rattle.capability_engine.specs.RegionListing.{Starts, Steps};
 
 // The slot that was put in, and the arena without it.
@@ -1083,7 +1083,8 @@ impl RegionTracker {
         RegionTracker { head: 1024 }
     }
 
-    // The most holders of a region that shares an address with the range.
+    // The most holders of a region that shares an address with the range. Those that end below it are passed by their ends alone,
+    // and behind one that begins at or above its end none is visited.
     pub(crate) fn get_refcount(
         self,
         next: &[usize],
@@ -1091,13 +1092,17 @@ impl RegionTracker {
         start: HostAddr,
         end: HostAddr,
     ) -> u64
-        requires { ⌜ Walkable (now next) (now words) (self .head) ⌝ }
+        requires { ⌜ Countable (now next) (now words) (self .head) ⌝ }
         ensures { λ r. ⌜ r ≡ refcountOf start end (storedAt (now (next .entry)) (now (words .entry)) (self .head)) ⌝ }
     {
+        let skipped = skip_below(next, words, self.head, start);
         let mut n = 0;
-        let mut cur = self.head;
+        let mut cur = skipped.next;
         while cur < 1024 {
             let r = load(words, cur);
+            if end.0 <= r.start.0 {
+                return n;
+            }
             n = most(n, r, start, end);
             cur = next[cur];
         }

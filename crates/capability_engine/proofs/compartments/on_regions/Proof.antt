@@ -1,5 +1,5 @@
 use Rattle.capability_engine.proofs.CompartmentArms.{on-add, on-remove, on-refcount, not-regions}
-use Rattle.capability_engine.proofs.RegionTracks.{tracked-walk}
+use Rattle.capability_engine.proofs.RegionTracks.{tracked-count}
 use borrow.Author.Needs.{needs}
 use Rattle.capability_engine.proofs.compartments.on_regions.Statement.{statement}
 use Rattle.capability_engine.proofs.compartments.on_regions.Tie as tie
@@ -20,7 +20,7 @@ enum-known-call-3 : tie.Need-enum-known-call-3
 enum-known-call-3 c = search needs
 
 get-refcount-requires : tie.Need-get-refcount-requires
-get-refcount-requires c κs = tracked-walk _ _ _ _ (c .before .before .before .before .before .before .before .before .before .pre)
+get-refcount-requires c κs = tracked-count _ _ _ _ (c .before .before .before .before .before .before .before .before .before .pre)
 
 same-length : tie.Need-same-length
 same-length c = search needs

@@ -1,6 +1,6 @@
 use native.Mathlib.Omega.{arith}
 use Rattle.definitions.specs.Reckoning.{compartmentOf}
-use Rattle.capability_engine.proofs.CompartmentLaws.{grown-walk}
+use Rattle.capability_engine.proofs.CompartmentLaws.{grown-count}
 use Rattle.capability_engine.proofs.CompartmentReads.{past, counted}
 use borrow.Author.Needs.{needs}
 use Rattle.capability_engine.proofs.compartments.Tables.get_refcount.Statement.{statement}
@@ -17,7 +17,7 @@ array-copy-out-tracker : tie.Need-array-copy-out-tracker
 array-copy-out-tracker c = search needs
 
 get-refcount-requires : tie.Need-get-refcount-requires
-get-refcount-requires c κs = grown-walk _ _ _ _ _ _ (c .before .before .before .before .before .before .before .pre .grown .pooled) _ (omega (arith, c .before .before .if1 .left)) _
+get-refcount-requires c κs = grown-count _ _ _ _ _ _ (c .before .before .before .before .before .before .before .pre .grown .pooled) _ (omega (arith, c .before .before .if1 .left)) _
 
 returns-2 : tie.Need-returns-2
 returns-2 c = λ calls g. counted _ _ _ _ _ calls g _ (omega (arith, c .before .before .before .if1 .left)) _ (c .before .before .before .before .before .before .before .before .args .start) (c .before .before .before .before .before .before .before .before .args .end) _ (c .get-refcount .ensures)
