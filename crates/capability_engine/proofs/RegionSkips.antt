@@ -126,27 +126,33 @@ module _ (a e : HostAddr) (k : ℕ) (ask : RemoveAsk) (r : Region) (m : meets a 
 
 -- ---- the regions of a list
 
+-- regions that a step passes over, in front of others
+fold-past : {A : Type 0} (step : A → Region → A) (P : Region → Type 0) (x : A) → ((r : Region) → P r → step x r ≡ x) → (rs qs : List Region) → All P rs
+    → foldFrom step x (rs ++ qs) ≡ foldFrom step x qs
+fold-past step P x h [] qs p = refl
+fold-past {A} step P x h (r ∷ rs) qs p =
+    ap (λ (y : A). foldFrom step y (rs ++ qs)) (h r (p .0)) ∙ fold-past step P x h rs qs (p .1)
+
+-- and behind: all of a list that begins at lo or above
+fold-over : {A : Type 0} (step : A → Region → A) (x : A) (lo : ℕ) → ((r : Region) → lo ≤ r .start .0 → r .start .0 < r .end .0 → step x r ≡ x)
+    → (from : ℕ) (rs : List Region) → lo ≤ from → Ordered from rs → foldFrom step x rs ≡ x
+fold-over step x lo h from [] l o = refl
+fold-over {A} step x lo h from (r ∷ rs) l o =
+    ap (λ (y : A). foldFrom step y rs) (h r (omega (arith, o .0)) (o .1)) ∙ fold-over step x lo h (r .end .0) rs (omega (arith, o .0, o .1)) (o .2)
+
 module _ (a e : HostAddr) (k : ℕ) where
   add-front : (ask : AddAsk) (low : HostAddr) (rs qs : List Region) → All (λ r. r .end .0 < low .0) rs → low .0 ≤ a .0 → low .0 ≤ e .0 → ask .from ≡ a
       → foldFrom (addStep a e k) ask (rs ++ qs) ≡ foldFrom (addStep a e k) ask qs
-  add-front ask low [] qs h la le d = refl
-  add-front ask low (r ∷ rs) qs h la le d =
-      ap (λ (x : AddAsk). foldFrom (addStep a e k) x (rs ++ qs)) (add-below a e k ask r d (omega (arith, h .0)) (omega (arith, h .0))) ∙ add-front ask low rs qs (h .1) la le d
+  add-front ask low rs qs h la le d = fold-past (addStep a e k) (λ r. r .end .0 < low .0) ask (λ r l. add-below a e k ask r d (omega arith) (omega arith)) rs qs h
 
   add-rest : (ask : AddAsk) (lo : ℕ) (rs : List Region) → Ordered lo rs → a .0 ≤ lo → e .0 ≤ lo → ask .from ≡ e → foldFrom (addStep a e k) ask rs ≡ ask
-  add-rest ask lo [] o la le d = refl
-  add-rest ask lo (r ∷ rs) o la le d =
-      ap (λ (x : AddAsk). foldFrom (addStep a e k) x rs) (add-above a e k ask r d (omega (arith, o .0)) (omega (arith, o .0)) (o .1))
-      ∙ add-rest ask (r .end .0) rs (o .2) (omega (arith, o .0, o .1)) (omega (arith, o .0, o .1)) d
+  add-rest ask lo rs o la le d = fold-over (addStep a e k) ask lo (λ r l m. add-above a e k ask r d (omega arith) (omega arith) m) lo rs (omega arith) o
 
   remove-rest : (ask : RemoveAsk) (lo : ℕ) (rs : List Region) → Ordered lo rs → a .0 < lo → e .0 < lo → foldFrom (removeStep a e k) ask rs ≡ ask
-  remove-rest ask lo [] o la le = refl
-  remove-rest ask lo (r ∷ rs) o la le =
-      let ls : a .0 < r .start .0 = omega (arith, o .0) in
-      let lt : e .0 < r .start .0 = omega (arith, o .0) in
-      ap (λ (x : RemoveAsk). foldFrom (removeStep a e k) x rs)
-      (remove-same a e k ask r (meets-above a e r (omega arith)) (split-before a r (omega arith)) (split-before e r (omega arith)) (frees-above a e r (omega (arith, o .1))) ls)
-      ∙ remove-rest ask (r .end .0) rs (o .2) (omega (arith, o .1)) (omega (arith, o .1))
+  remove-rest ask lo rs o la le =
+      fold-over (removeStep a e k) ask lo
+      (λ r l m. remove-same a e k ask r (meets-above a e r (omega arith)) (split-before a r (omega arith)) (split-before e r (omega arith)) (frees-above a e r (omega arith)) (omega arith))
+      lo rs (omega arith) o
 
   -- of two regions that end below the range the first does not matter
   remove-skip : (ask : RemoveAsk) (low : HostAddr) (r t : Region) (qs : List Region) → r .end .0 < low .0 → t .start .0 < low .0 → low .0 ≤ a .0 → low .0 ≤ e .0
@@ -160,16 +166,6 @@ module _ (a e : HostAddr) where
   most-out : (n : ℕ) (r : Region) → meets a e r ≡ false → mostOf a e n r ≡ n
   unfolding mostOf
   most-out n r d = rw d
-
-  most-front : (n : ℕ) (rs qs : List Region) → All (λ r. r .end .0 < a .0) rs → foldFrom (mostOf a e) n (rs ++ qs) ≡ foldFrom (mostOf a e) n qs
-  most-front n [] qs h = refl
-  most-front n (r ∷ rs) qs h =
-      ap (λ (m : ℕ). foldFrom (mostOf a e) m (rs ++ qs)) (most-out n r (meets-below a e r (omega (arith, h .0)))) ∙ most-front n rs qs (h .1)
-
-  most-rest : (n lo : ℕ) (rs : List Region) → Ordered lo rs → e .0 ≤ lo → foldFrom (mostOf a e) n rs ≡ n
-  most-rest n lo [] o l = refl
-  most-rest n lo (r ∷ rs) o l =
-      ap (λ (m : ℕ). foldFrom (mostOf a e) m rs) (most-out n r (meets-above a e r (omega (arith, o .0)))) ∙ most-rest n (r .end .0) rs (o .2) (omega (arith, o .0, o .1))
 
 -- ---- a walk
 
@@ -193,6 +189,11 @@ module _ (nx ws : List ℕ) (cur : ℕ) (g : Listed nx cur (slots nx cur)) (l : 
   pub later-zero : Ordered 0 (storedAt nx ws (getD nx cur 0))
   later-zero = ordered-from (regionAt ws cur .end .0) 0 (storedAt nx ws (getD nx cur 0)) (omega arith) later-ordered
 
+-- a walk goes on
+fold-on : {A : Type 0} (step : A → Region → A) (nx ws : List ℕ) (cur : ℕ) (x y w : A) (r : Region) → Folding step nx ws cur x w → Ordered 0 (storedAt nx ws cur) → cur < 1024
+    → r ≡ regionAt ws cur → y ≡ step x r → Folding step nx ws (getD nx cur 0) y w × Ordered 0 (storedAt nx ws (getD nx cur 0))
+fold-on step nx ws cur x y w r f o l er ey = (fold-turn step nx ws cur x y w r f l er ey, later-zero nx ws cur (f .listed) l o)
+
 -- what was passed, and what is left
 module _ (nx ws : List ℕ) (head : ℕ) (low : HostAddr) (s : Skipped) (c : SkipsBelow nx ws head low s) where
   stored-parts : storedAt nx ws head ≡ records ws (c .done) ++ storedAt nx ws (s .next)
@@ -208,20 +209,20 @@ module _ (a e : HostAddr) (nx ws : List ℕ) where
   most-walk head s c p = (
     record {
       listed = p .listed;
-      all = sym (ap (foldFrom (mostOf a e) 0) (stored-parts nx ws head a s p) ∙ most-front a e 0 (records ws (p .done)) (storedAt nx ws (s .next)) (p .each));
+      all = sym (ap (foldFrom (mostOf a e) 0) (stored-parts nx ws head a s p) ∙ fold-past (mostOf a e) (λ r. r .end .0 < a .0) 0 (λ r l. most-out a e 0 r (meets-below a e r (omega arith))) (records ws (p .done)) (storedAt nx ws (s .next)) (p .each));
     },
     left-ordered nx ws head a s p (c .ordered),
   )
 
   module _ (cur n w : ℕ) (r : Region) (f : Folding (mostOf a e) nx ws cur n w) (o : Ordered 0 (storedAt nx ws cur)) (l : cur < 1024) (er : r ≡ regionAt ws cur) where
     pub most-on : (m : ℕ) → m ≡ mostOf a e n r → Folding (mostOf a e) nx ws (getD nx cur 0) m w × Ordered 0 (storedAt nx ws (getD nx cur 0))
-    most-on m em = (fold-turn (mostOf a e) nx ws cur n m w r f l er em, later-zero nx ws cur (f .listed) l o)
+    most-on m em = fold-on (mostOf a e) nx ws cur n m w r f o l er em
 
     pub most-stop : e .0 ≤ r .start .0 → n ≡ w
     most-stop h =
         let ls : regionAt ws cur .start .0 < regionAt ws cur .end .0 = cur-some nx ws cur (f .listed) l o in
         let i : r .start .0 ≡ regionAt ws cur .start .0 = rw er in
-        sym (most-rest a e n (regionAt ws cur .end .0) (storedAt nx ws (getD nx cur 0)) (later-ordered nx ws cur (f .listed) l o) (omega arith))
+        sym (fold-over (mostOf a e) n (regionAt ws cur .end .0) (λ q k m. most-out a e n q (meets-above a e q (omega arith))) (regionAt ws cur .end .0) (storedAt nx ws (getD nx cur 0)) (omega arith) (later-ordered nx ws cur (f .listed) l o))
         ∙ most-on n (sym (most-out a e n r (meets-above a e r h))) .0 .all
 
 module _ (a e : HostAddr) (k : ℕ) (nx ws : List ℕ) where
@@ -238,7 +239,7 @@ module _ (a e : HostAddr) (k : ℕ) (nx ws : List ℕ) where
 
   module _ (cur : ℕ) (ask b w : AddAsk) (r : Region) (f : Folding (addStep a e k) nx ws cur ask w) (o : Ordered 0 (storedAt nx ws cur)) (l : cur < 1024) (er : r ≡ regionAt ws cur) (eb : b ≡ addStep a e k ask r) where
     pub add-on : Folding (addStep a e k) nx ws (getD nx cur 0) b w × Ordered 0 (storedAt nx ws (getD nx cur 0))
-    add-on = (fold-turn (addStep a e k) nx ws cur ask b w r f l er eb, later-zero nx ws cur (f .listed) l o)
+    add-on = fold-on (addStep a e k) nx ws cur ask b w r f o l er eb
 
     pub add-stop : (h g : Bool) → h ≡ ((b .from .0 =? e .0) && g) → (g ≡ true → (a .0 ≤ r .start .0) × (e .0 ≤ r .start .0)) → h ≡ true → b ≡ w
     add-stop h g eh eg d =
@@ -292,7 +293,7 @@ module _ (a e : HostAddr) (k : ℕ) (nx ws : List ℕ) where
 
   module _ (cur : ℕ) (ask b w : RemoveAsk) (r : Region) (f : Folding (removeStep a e k) nx ws cur ask w) (o : Ordered 0 (storedAt nx ws cur)) (l : cur < 1024) (er : r ≡ regionAt ws cur) (eb : b ≡ removeStep a e k ask r) where
     pub remove-on : Folding (removeStep a e k) nx ws (getD nx cur 0) b w × Ordered 0 (storedAt nx ws (getD nx cur 0))
-    remove-on = (fold-turn (removeStep a e k) nx ws cur ask b w r f l er eb, later-zero nx ws cur (f .listed) l o)
+    remove-on = fold-on (removeStep a e k) nx ws cur ask b w r f o l er eb
 
     pub remove-stop : (g : Bool) → (g ≡ true → (a .0 ≤ r .start .0) × (e .0 ≤ r .start .0)) → g ≡ true → b ≡ w
     remove-stop g eg d =
