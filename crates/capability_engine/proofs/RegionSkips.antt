@@ -234,7 +234,7 @@ module _ (a e : HostAddr) (k : ℕ) (nx ws : List ℕ) where
         all = sym (ap (foldFrom (addStep a e k) (addBegin room a)) (stored-parts nx ws head (c .low) s (c .skipped))
             ∙ add-front a e k (addBegin room a) (c .low) (records ws (c .skipped .done)) (storedAt nx ws (s .next)) (c .skipped .each) (c .below) (c .under) refl);
       },
-      left-ordered nx ws head (c .low) s (c .skipped) (c .askable .ordered),
+      left-ordered nx ws head (c .low) s (c .skipped) (c .askable .list .ordered),
     )
 
   module _ (cur : ℕ) (ask b w : AddAsk) (r : Region) (f : Folding (addStep a e k) nx ws cur ask w) (o : Ordered 0 (storedAt nx ws cur)) (l : cur < 1024) (er : r ≡ regionAt ws cur) (eb : b ≡ addStep a e k ask r) where
@@ -285,10 +285,10 @@ module _ (a e : HostAddr) (k : ℕ) (nx ws : List ℕ) where
         | yes l ↦
             (let i : cur ≡ last 1024 (c .skipped .done) = ec ∙ simp (lt-ltb (s .last) 1024 l) (c .skipped .here) in
             rw i
-            (from-last (c .low) (removeBegin room) (s .next) head 0 (c .skipped .done) (c .askable .listed .listed) (c .skipped .whole) (rw (c .skipped .here) at l) (c .skipped .each) (c .askable .ordered) (c .below) (c .under)))
+            (from-last (c .low) (removeBegin room) (s .next) head 0 (c .skipped .done) (c .askable .list .listed .listed) (c .skipped .whole) (rw (c .skipped .here) at l) (c .skipped .each) (c .askable .list .ordered) (c .below) (c .under)))
         | no l ↦
             (let i : cur ≡ head = ec ∙ simp (le-ltb (s .last) 1024 (omega arith)) in
-            rw i (record { listed = c .askable .listed .listed; all = refl }, c .askable .ordered))
+            rw i (record { listed = c .askable .list .listed .listed; all = refl }, c .askable .list .ordered))
       ]
 
   module _ (cur : ℕ) (ask b w : RemoveAsk) (r : Region) (f : Folding (removeStep a e k) nx ws cur ask w) (o : Ordered 0 (storedAt nx ws cur)) (l : cur < 1024) (er : r ≡ regionAt ws cur) (eb : b ≡ removeStep a e k ask r) where

@@ -289,11 +289,11 @@ module _ (nx ws : List ℕ) (fl : Heap) (head : ℕ) (t : Tracked nx ws fl head)
   tracked-place a low q g l =
       record { pre = g .done; cur = slots nx (q .next); whole = mine-is ∙ g .whole; here = g .here; each = all-below low a l (records ws (g .done)) (g .each) }
 
-  pub tracked-askable : (room : ℕ) → room ≡ length (freeOf fl) → Askable nx ws head room
-  tracked-askable room er = record { listed = tracked-walk; ordered = runs .ordered; few = omega (arith, few-in) }
-
   pub tracked-count : Countable nx ws head
   tracked-count = record { listed = tracked-walk; ordered = runs .ordered }
+
+  pub tracked-askable : (room : ℕ) → room ≡ length (freeOf fl) → Askable nx ws head room
+  tracked-askable room er = record { list = tracked-count; few = omega (arith, few-in) }
 
   module _ (a e : HostAddr) (k : ℕ) (room : ℕ) (er : room ≡ length (freeOf fl)) (le : e .0 ≤ 2 ^ 64) (ne : a .0 ≡ e .0 → ⊥) (r : Answer) (v : ℕ) (ev : r ≡ Accepted v) where
     yes-of : (x : Answer) → r ≡ x → accepted x ≡ true

@@ -116,10 +116,14 @@ addBegin room a = record { raisable = true; «cuts_start» = false; «cuts_end»
 abbrev pub removeBegin : ℕ → RemoveAsk
 removeBegin room = record { begun = false; last = record { 0 = 0 }; «cuts_start» = false; «cuts_end» = false; lack = 1025 - room; lowerable = true; gone = false }
 
--- what asking for a remove needs to know of the list
-pub record Askable (nx ws : List ℕ) (head room : ℕ) : Type 0 where
+-- a list can be counted: its records are in order
+pub record Countable (nx ws : List ℕ) (head : ℕ) : Type 0 where
   pub listed : Walkable nx ws head
   pub ordered : Ordered 0 (storedAt nx ws head)
+
+-- what asking for a remove needs to know of the list
+pub record Askable (nx ws : List ℕ) (head room : ℕ) : Type 0 where
+  pub list : Countable nx ws head
   pub few : length (storedAt nx ws head) + room ≤ 1024
 
 -- the same, with the records passed that end below both
@@ -129,11 +133,6 @@ pub record AskableAt (nx ws : List ℕ) (head room : ℕ) (a e : HostAddr) (s : 
   pub below : low .0 ≤ a .0
   pub under : low .0 ≤ e .0
   pub skipped : SkipsBelow nx ws head low s
-
--- a list can be counted: its records are in order
-pub record Countable (nx ws : List ℕ) (head : ℕ) : Type 0 where
-  pub listed : Walkable nx ws head
-  pub ordered : Ordered 0 (storedAt nx ws head)
 
 -- the greater of n and the region's holders, if it shares an address with the range
 unfoldable pub mostOf : HostAddr → HostAddr → ℕ → Region → ℕ

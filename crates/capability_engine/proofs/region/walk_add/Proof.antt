@@ -23,7 +23,7 @@ loop-holds : tie.Need-loop-holds Inv-loop μ-loop
 loop-holds c = add-walk (c .before .before .args .start) (c .before .before .args .end) (c .before .before .args .rights) _ _ _ _ (c .before .before .args .skipped) (c .before .before .pre)
 
 load-requires : tie.Need-load-requires Inv-loop μ-loop
-load-requires c κs = (c .loop-test .taken, c .before .before .before .before .pre .askable .listed .words)
+load-requires c κs = (c .loop-test .taken, c .before .before .before .before .pre .askable .list .listed .words)
 
 add-step-requires : tie.Need-add-step-requires Inv-loop μ-loop
 add-step-requires c κs = search needs

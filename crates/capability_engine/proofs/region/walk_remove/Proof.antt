@@ -26,7 +26,7 @@ loop-holds : tie.Need-loop-holds Inv-loop μ-loop
 loop-holds c = remove-walk (c .before .before .before .args .start) (c .before .before .before .args .end) (c .before .before .before .args .rights) _ _ _ _ (c .before .before .before .args .skipped) (c .before .before .before .pre) _ (c .last-or .ensures)
 
 load-requires : tie.Need-load-requires Inv-loop μ-loop
-load-requires c κs = (c .loop-test .taken, c .before .before .before .before .before .pre .askable .listed .words)
+load-requires c κs = (c .loop-test .taken, c .before .before .before .before .before .pre .askable .list .listed .words)
 
 remove-step-requires : tie.Need-remove-step-requires Inv-loop μ-loop
 remove-step-requires c κs = search needs
