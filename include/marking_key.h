@@ -1,0 +1,71 @@
+/*
+ * The marking key as a library: link target/staticlib/libexports.a, which ./library builds. x86-64 Linux.
+ *
+ * Every function runs a script from empty tables of its own and keeps nothing: calls depend on nothing but their arguments, and may
+ * be made from several threads at once. Scripts are bytes of the form that README.md describes; any bytes at all may be handed over, and
+ * no call fails but by its answer.
+ *
+ * A slice is a pointer and a length, counted in elements. Pointers are not null, even where the length is 0; what a script lies in and what
+ * is written to are apart. Nothing is written past what the answer counts: the rest of `out` stays as it was.
+ */
+#ifndef MARKING_KEY_H
+#define MARKING_KEY_H
+
+#include <stddef.h>
+#include <stdint.h>
+
+#ifdef __cplusplus
+extern "C" {
+#endif
+
+/* How many bytes the longest output line has, its last byte 10 included. The heading and an answer have 25. */
+#define MARKING_KEY_LONGEST_LINE 106
+
+/* How many numbers a group has. */
+#define MARKING_KEY_MAPPING 5    /* hpa, gpa, size, repeat, rights */
+#define MARKING_KEY_PERMISSION 3 /* start, end, rights */
+#define MARKING_KEY_REGION 8     /* start, end, holders, counts of read, write, exec and super, uncacheable (0 or 1) */
+#define MARKING_KEY_SEGMENT 4    /* hpa, gpa, size, repeat */
+
+/*
+ * Runs a script and writes its output from the heading on: as many whole lines as `out` takes.
+ * Answers how many lines, the heading among them: 0 where not even that fits. A script's refused lines are part of its output and no
+ * refusal of this call, which has none. All of the output is there if MARKING_KEY_LONGEST_LINE bytes were left behind the last line.
+ */
+size_t run_script(const uint8_t *script, size_t script_len, uint8_t *out, size_t out_len);
+
+/*
+ * A page of a list of one compartment after a script: from group `from` on, counted from 0, as many whole groups as `out` takes.
+ * Answers how many groups; fewer than fit means that the list is at its end, and 0 with `from` at the end or past it.
+ * Refused with 1 where the compartment is 8 or above; `out` is then as it was. Lines of the script that are refused change nothing.
+ *
+ * The lists: the mapping stream, in its order; the permissions, by rising address; the stored regions, by rising address; the stored
+ * segments, in the order of their list.
+ */
+uint64_t stream_page(const uint8_t *script, size_t script_len, uint64_t compartment, size_t from, uint64_t *out,
+                     size_t out_len);
+uint64_t permissions_page(const uint8_t *script, size_t script_len, uint64_t compartment, size_t from, uint64_t *out,
+                          size_t out_len);
+uint64_t regions_page(const uint8_t *script, size_t script_len, uint64_t compartment, size_t from, uint64_t *out,
+                      size_t out_len);
+uint64_t segments_page(const uint8_t *script, size_t script_len, uint64_t compartment, size_t from, uint64_t *out,
+                       size_t out_len);
+
+/*
+ * Whether the guest range of `size` addresses from `start` overlaps a stored segment of a compartment after a script: 1 or 0.
+ * Refused with 1 where the compartment is 8 or above, with 10 where start + size does not fit 64 bits.
+ */
+uint64_t overlaps_after(const uint8_t *script, size_t script_len, uint64_t compartment, uint64_t start, uint64_t size);
+
+/* The number of the refusal that an answer of the five functions above is, or 0 where the call was accepted. A refusal comes as 2^64 less
+ * its number; no list has so many groups. */
+static inline unsigned marking_key_refusal(uint64_t answer)
+{
+    return answer > UINT64_MAX - 255 ? (unsigned)(UINT64_MAX - answer) + 1 : 0;
+}
+
+#ifdef __cplusplus
+}
+#endif
+
+#endif
