@@ -36,7 +36,7 @@ watch() {
             tell "proving $one, $(time_of "$one")${once:-}"
             known="$known$one " quiet=0
         done
-        if [ "$quiet" -ge 60 ]; then tell "still at ${now:-it}"; quiet=0; fi
+        if [ "$quiet" -ge 60 ]; then now=${now% }; tell "still at ${now:-it}"; quiet=0; fi
     done
 }
 
