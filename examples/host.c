@@ -1,9 +1,9 @@
 /*
- * A host program over the library: runs the script on standard input, writes its output, and then reads a compartment's mapping
- * stream by pages of so many mappings until one is not full.
+ * A host program over the library: runs the script on standard input and writes its output; then reads each list of a compartment
+ * by pages of so many groups until one is not full, the mapping stream first; then asks whether a guest address is taken.
  *
  *     cc -Iinclude examples/host.c target/staticlib/libexports.a -o host
- *     ./host 0 2 < examples/worked.txt
+ *     ./host 0 2 100 < examples/worked.txt
  */
 #include <inttypes.h>
 #include <stdio.h>
@@ -61,39 +61,72 @@ static void print_output(const uint8_t *script, size_t script_len)
     free(out);
 }
 
-/* The mapping stream of a compartment by pages; the status of the program. */
-static int print_pages(const uint8_t *script, size_t script_len, uint64_t compartment, size_t mappings)
+typedef uint64_t page_read(const uint8_t *script, size_t script_len, uint64_t compartment, size_t from, uint64_t *out,
+                           size_t out_len);
+
+static const struct list {
+    const char *name;
+    page_read *read;
+    size_t width;
+} LISTS[] = {
+    {"mappings", stream_page, MARKING_KEY_MAPPING},
+    {"permissions", permissions_page, MARKING_KEY_PERMISSION},
+    {"regions", regions_page, MARKING_KEY_REGION},
+    {"segments", segments_page, MARKING_KEY_SEGMENT},
+};
+
+/* An answer behind what was asked; is it a refusal? */
+static int print_answer(uint64_t answer)
 {
-    uint64_t *page = grown(NULL, mappings * MARKING_KEY_MAPPING * sizeof *page);
+    unsigned refusal = marking_key_refusal(answer);
+    if (refusal != 0)
+        printf("refused with %u\n", refusal);
+    else
+        printf("%" PRIu64 "\n", answer);
+    return refusal != 0;
+}
+
+/* A list of a compartment by pages of so many groups; was it refused? */
+static int print_pages(const uint8_t *script, size_t script_len, uint64_t compartment, struct list list, size_t groups)
+{
+    uint64_t *page = grown(NULL, groups * list.width * sizeof *page);
     size_t from = 0;
     uint64_t many;
+    int refused;
     do {
-        many = stream_page(script, script_len, compartment, from, page, mappings * MARKING_KEY_MAPPING);
-        if (marking_key_refusal(many) != 0) {
-            printf("page from %zu: refused with %u\n", from, marking_key_refusal(many));
-            break;
-        }
-        printf("page from %zu: %" PRIu64 "\n", from, many);
-        for (size_t i = 0; i < many * MARKING_KEY_MAPPING; i++)
-            printf("%21" PRIu64 "%s", page[i], i % MARKING_KEY_MAPPING == MARKING_KEY_MAPPING - 1 ? "\n" : "");
+        many = list.read(script, script_len, compartment, from, page, groups * list.width);
+        printf("%s from %zu: ", list.name, from);
+        refused = print_answer(many);
+        for (size_t i = 0; !refused && i < many * list.width; i++)
+            printf("%21" PRIu64 "%s", page[i], i % list.width == list.width - 1 ? "\n" : "");
         from += many;
-    } while (many == mappings);
+    } while (many == groups);
     free(page);
-    return marking_key_refusal(many) != 0;
+    return refused;
+}
+
+static uint64_t number(int argc, char **argv, int place, uint64_t otherwise)
+{
+    return place < argc ? strtoull(argv[place], NULL, 10) : otherwise;
 }
 
 int main(int argc, char **argv)
 {
-    uint64_t compartment = argc > 1 ? strtoull(argv[1], NULL, 10) : 0;
-    size_t mappings = argc > 2 ? strtoull(argv[2], NULL, 10) : 16;
-    if (mappings < 1 || mappings > 65536) {
-        fputs("host: a page has 1 to 65536 mappings\n", stderr);
+    uint64_t compartment = number(argc, argv, 1, 0);
+    uint64_t groups = number(argc, argv, 2, 16);
+    uint64_t guest = number(argc, argv, 3, 0);
+    if (groups < 1 || groups > 65536) {
+        fputs("host: a page has 1 to 65536 groups\n", stderr);
         return 2;
     }
     size_t script_len;
     uint8_t *script = read_all(stdin, &script_len);
     print_output(script, script_len);
-    int status = print_pages(script, script_len, compartment, mappings);
+    int refused = 0;
+    for (size_t i = 0; i < sizeof LISTS / sizeof *LISTS; i++)
+        refused |= print_pages(script, script_len, compartment, LISTS[i], groups);
+    printf("guest address %" PRIu64 " taken: ", guest);
+    refused |= print_answer(overlaps_after(script, script_len, compartment, guest, 1));
     free(script);
-    return status;
+    return refused;
 }
