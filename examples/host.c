@@ -1,6 +1,6 @@
 /*
  * A host program over the library: runs the script on standard input and writes its output; then reads each list of a compartment
- * by pages of so many groups until one is not full, the mapping stream first; then asks whether a guest address is taken.
+ * by pages of so many groups until one is not full, the mapping stream first; then asks `overlaps` of one guest address.
  *
  *     cc -Iinclude examples/host.c target/staticlib/libexports.a -o host
  *     ./host 0 2 100 < examples/worked.txt
@@ -125,7 +125,7 @@ int main(int argc, char **argv)
     int refused = 0;
     for (size_t i = 0; i < sizeof LISTS / sizeof *LISTS; i++)
         refused |= print_pages(script, script_len, compartment, LISTS[i], groups);
-    printf("guest address %" PRIu64 " taken: ", guest);
+    printf("overlaps at %" PRIu64 ": ", guest);
     refused |= print_answer(overlaps_after(script, script_len, compartment, guest, 1));
     free(script);
     return refused;
