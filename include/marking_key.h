@@ -54,10 +54,8 @@ uint64_t segments_page(const uint8_t *script, size_t script_len, uint64_t compar
                        size_t out_len);
 
 /*
- * The answer of `overlaps` for `size` guest addresses from `start`, in a compartment after a script: 1 or 0. It is the Rust's test, and no
- * test for a shared address. With end = start + size, a segment counts if its guest span holds the start, or begins below the end and does
- * not end below it; behind one that does not count and begins above the end, none does. So a range that swallows a span can get 0, and an
- * address of a span too, if a segment of a higher guest address comes first in the list.
+ * Does a range of `size` guest addresses from `start` on share an address with the guest span of a stored segment, in a compartment after
+ * a script? 1 or 0. An empty range shares none. A map of a range for which this answers 1 would be refused with 11.
  * Refused with 1 where the compartment is 8 or above, with 10 where start + size does not fit 64 bits.
  */
 uint64_t overlaps_after(const uint8_t *script, size_t script_len, uint64_t compartment, uint64_t start, uint64_t size);

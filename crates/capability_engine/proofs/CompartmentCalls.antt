@@ -25,12 +25,12 @@ use Rattle.capability_engine.specs.declared.remapper.Span.{Span}
 use Rattle.capability_engine.specs.declared.compartments.Tables.{Tables}
 use Rattle.capability_engine.specs.CompartmentGrown.{trackersOf, Grown, Answers}
 use Rattle.capability_engine.specs.CompartmentSteps.{onRegions, onSegments, noTracker, OnRegions, OnSegments, AsksSegments}
-use Rattle.capability_engine.specs.RemapHeld.{Holds, IsHeld}
+use Rattle.capability_engine.specs.RemapHeld.{Holds, IsSound}
 use Rattle.capability_engine.specs.RemapAsking.{inRange}
 use Rattle.capability_engine.specs.RemapAnswers.{Does, Decides, Inserts, CutsOut}
 use Rattle.capability_engine.proofs.RemapCalls.{holding, as-put, as-cut, did-put, did-cut, did-keep}
 use Rattle.capability_engine.proofs.CompartmentLaws.{eight}
-use Rattle.capability_engine.proofs.CompartmentFacts.{held, regions-grown, segments-answer, segments-kept, segments-grown}
+use Rattle.capability_engine.proofs.CompartmentFacts.{sound, regions-grown, segments-answer, segments-kept, segments-grown}
 
 -- what is read where there is something does not depend on what would be read past the end
 pub getD-any : {A : Type 0} (l : List A) (k : ℕ) (d e : A) → k < length l → getD l k d ≡ getD l k e
@@ -51,14 +51,14 @@ module _ (call : Call) (remapper : Remapper) (r : Change) (asks : AsksSegments c
   settles u did = λ n c h o. did (answerIn n c call) (reckon call c .segments) (asks n c h o)
 
   -- the change can be made
-  module _ (o : onSegments call ≡ true) (h : IsHeld remapper) where
+  module _ (o : onSegments call ≡ true) (h : IsSound remapper) where
     pub ready : (a : Answer) × (ss : List Segment) × Decides remapper a ss r
     ready = (answerIn 0 (holding (h .0)) call, reckon call (holding (h .0)) .segments, asks 0 (holding (h .0)) (h .1) o)
 
     pub ready-put : (s : Segment) → r ≡ Put s → Good s × ((ss : List Segment) × Holds remapper ss × (true ≡ false → length ss < 64))
     ready-put s e = let w = as-put remapper _ _ r (ready .2) s e in (w .good, (w .before, w .held, λ n. absurd (true≢false n)))
 
-    pub ready-cut : (p : Span) → r ≡ Cut p → inRange p × IsHeld remapper
+    pub ready-cut : (p : Span) → r ≡ Cut p → inRange p × IsSound remapper
     ready-cut p e = (as-cut remapper _ _ r (ready .2) p e .range, h)
 
 -- a refused call leaves the remapper that went in
@@ -96,7 +96,7 @@ module _ (words nx links gens : List ℕ) (t : Tables) (calls : List Call) (g : 
       → Answers calls call words nx links gens t words nx links gens (record { tables = record { arena = t .arena; trackers = t .trackers; remappers = set (t .remappers) k (r .remapper) }; answer = r .answer })
   segments-answers d r s on =
       let l : compartmentOf call < 8 = rw (sym ek) lk in
-      let does = rw ek at (on (used (after calls)) (compartment (after calls) k) (held words nx links gens t calls g k lk d) s) in
+      let does = rw ek at (on (used (after calls)) (compartment (after calls) k) (sound words nx links gens t calls g k lk d) s) in
       rw ek (record {
         answered = segments-answer words nx links gens t calls g call l s d r does;
         grown = segments-grown words nx links gens t calls g call l s d r does;

@@ -20,7 +20,7 @@ use Rattle.capability_engine.specs.declared.compartments.Tables.{Tables}
 use Rattle.capability_engine.specs.PoolChain.{storedAt}
 use Rattle.capability_engine.specs.PoolOwn.{heap}
 use Rattle.capability_engine.specs.RegionAsks.{Tracked}
-use Rattle.capability_engine.specs.RemapHeld.{Holds}
+use Rattle.capability_engine.specs.RemapHeld.{Holds, Sound}
 use Rattle.capability_engine.specs.declared.remapper.Changed.{Changed}
 use Rattle.capability_engine.specs.RemapAnswers.{Does}
 use Rattle.capability_engine.specs.RemapListing.{Copied}
@@ -98,6 +98,9 @@ module _ (words next links gens : List ℕ) (t : Tables) (calls : List Call) (g 
 
     pub held : (d : Remapper) → Holds (getD (t .remappers) k d) (compartment (after calls) k .segments)
     held d = remapped-at (t .remappers) (after calls) k d (g .remapped) (omega (arith, length-after calls))
+
+    pub sound : (d : Remapper) → Sound (getD (t .remappers) k d) (compartment (after calls) k .segments)
+    sound d = record { held = held d; unshared = stored calls k .unshared }
 
     pub whole : Whole next words (getD (t .trackers) k noTracker .head)
     whole = grown-whole words next links gens (trackersOf t) calls (g .pooled) k l noTracker

@@ -4,11 +4,11 @@ use mathlib.Core.Path.{_≡_, refl, sym, ap, _∙_, subst}
 use mathlib.Core.List.{List, [], _∷_}
 use mathlib.Core.Bool.{Bool, true, false, not, cond, _&&_, _||_, true≢false}
 use native.Mathlib.Omega.{arith}
-use native.Mathlib.Nat.{le-div-iff-mul-le, div-lt-iff-lt-mul}
+use native.Mathlib.Nat.{le-div-iff-mul-le, div-lt-iff-lt-mul, mul-le-mul-left}
 use lib.ListN.{length}
-use borrow.Author.Tests.{lt-ltb, le-ltb, le-leb, lt-leb, leb-true, leb-false, ltb-true}
+use borrow.Author.Tests.{lt-ltb, le-ltb, le-leb, lt-leb, leb-true, leb-false, ltb-true, eq-eqb, ne-eqb}
 use Rattle.definitions.specs.Tests.{_<?_, _≤?_, if_then_else_, bit, fits, hostUp, guestUp, all, any}
-use Rattle.definitions.specs.Segments.{segment, hostEnd, spanEnd, place, inOrder, hits, hitsAny, overlaps, isIdentity, mapped, front, rest, hostInside, hostWhole, hostTail, hostCut, unmapped}
+use Rattle.definitions.specs.Segments.{segment, hostEnd, spanEnd, place, inOrder, touched, overlaps, isIdentity, mapped, front, rest, hostInside, hostWhole, hostTail, hostCut, unmapped}
 use Rattle.definitions.specs.Reckoning.{Compartment}
 use Rattle.definitions.specs.Values.{nothing}
 use Rattle.definitions.specs.Questions.{ask, accepted, valueOf, frontCut, onOverlaps, onMap, onUnmap}
@@ -29,12 +29,12 @@ use Rattle.capability_engine.specs.declared.remapper.Changed.{Changed}
 use Rattle.capability_engine.specs.declared.remapper.Span.{Span}
 use Rattle.capability_engine.specs.declared.remapper.Span.the-variants.{Host}
 use Rattle.capability_engine.specs.declared.remapper.Left.the-variants.{Gone, Kept, Two}
-use Rattle.capability_engine.specs.RemapHeld.{Holds}
+use Rattle.capability_engine.specs.RemapHeld.{Holds, Sound}
 use Rattle.capability_engine.specs.RemapAsking.{leftOf, okFor, askHost, askStep, askAll, nothingAsked, walked, isTwo, Trimmable}
 use Rattle.capability_engine.specs.RemapAnswers.{Does, ToPut, ToCut, Decides, done, onInsert, inserted, Inserts, onHost, CutsOut, canMap, canUnmap}
 use Rattle.capability_engine.proofs.RemapLaws.{length-segs}
 use Rattle.capability_engine.proofs.RemapParts.{both, not-so}
-use Rattle.capability_engine.proofs.RemapWalks.{Meets, segment-at, next-of, meets-start, meets-end, meets-stop, meets-on}
+use Rattle.capability_engine.proofs.RemapWalks.{Meets, segment-at, next-of, meets-start, meets-end, meets-on}
 
 -- ---- questions in order
 
@@ -96,10 +96,14 @@ pub overlap-large : (c : Compartment) (g : GuestAddr) (n : ℕ) → 2 ^ 64 ≤ g
 unfolding onOverlaps ask
 overlap-large c g n a = rw (fits-no (g .0 + n) a)
 
-pub overlap-says : (c : Compartment) (g : GuestAddr) (n : ℕ) → g .0 + n < 2 ^ 64 → (b : Bool) → b ≡ hitsAny g (guestUp g n) (c .segments)
+pub overlap-none : (c : Compartment) (g : GuestAddr) (n : ℕ) → g .0 + n < 2 ^ 64 → n ≡ 0 → Accepted 0 ≡ onOverlaps c g n
+unfolding onOverlaps ask overlaps
+overlap-none c g n a z = rw (fits-yes (g .0 + n) a, eq-eqb n 0 z)
+
+pub overlap-says : (c : Compartment) (g : GuestAddr) (n : ℕ) → g .0 + n < 2 ^ 64 → (n ≡ 0 → ⊥) → (b : Bool) → b ≡ any (touched g (guestUp g n)) (c .segments)
     → Accepted (bit b) ≡ onOverlaps c g n
 unfolding onOverlaps ask overlaps
-overlap-says c g n a b e = rw (fits-yes (g .0 + n) a, ← e)
+overlap-says c g n a z b e = rw (fits-yes (g .0 + n) a, ne-eqb n 0 z, ← e)
 
 -- its value, where the sum fits
 overlap-value : (c : Compartment) (g : GuestAddr) (n : ℕ) (y : Answer) (k : ℕ) → g .0 + n < 2 ^ 64 → y ≡ onOverlaps c g n → k ≡ valueOf y
@@ -199,7 +203,7 @@ module _ (self : Remapper) (c : Compartment) (hold : Holds self (c .segments)) (
 -- where the walk stands that asks a new one, and what is known once it has ended
 pub record Aliases (r : Remapper) (a e : GuestAddr) (new : Bool) (at : ℕ) (ss : List Segment) : Type 0 where
   pub asks : at < 64 → (new ≡ true) × Meets r a e at ss
-  pub apart : 64 ≤ at → new ≡ true → hitsAny a e ss ≡ false
+  pub apart : 64 ≤ at → new ≡ true → any (touched a e) ss ≡ false
 
 aliases-at : (r : Remapper) (a e : GuestAddr) (at : ℕ) (ss : List Segment) → Meets r a e at ss → Aliases r a e true at ss
 aliases-at r a e at ss m = record { asks = λ l. (refl, m); apart = λ l n. sym (meets-end r a e at ss m l) }
@@ -209,24 +213,22 @@ pub aliases-start : (r : Remapper) (a e : GuestAddr) (ss : List Segment) → Hol
 aliases-start r a e ss h true at q = rw q (aliases-at r a e (r .head) ss (meets-start r a e ss h))
 aliases-start r a e ss h false at q = record { asks = λ l. absurd (omega arith); apart = λ l n. absurd (true≢false (sym n)) }
 
-module _ (r : Remapper) (a e : GuestAddr) (new : Bool) (at : ℕ) (ss : List Segment) (w : Aliases r a e new at ss) (l : at < 64) (h : hits a e (segment-at r at) ≡ false) where
-  pub aliases-stop : e .0 < segment-at r at .gpa .0 → Aliases r a e new 64 ss
-  aliases-stop g = record { asks = λ q. absurd (omega arith); apart = λ q n. sym (meets-stop r a e at ss (w .asks l .1) l h g) }
+pub aliases-on : (r : Remapper) (a e : GuestAddr) (new : Bool) (at : ℕ) (ss : List Segment) → Aliases r a e new at ss → at < 64 → touched a e (segment-at r at) ≡ false
+    → Aliases r a e new (next-of r at) ss
+aliases-on r a e new at ss w l h = rw (w .asks l .0) (aliases-at r a e (next-of r at) ss (meets-on r a e at ss (w .asks l .1) l h))
 
-  pub aliases-on : segment-at r at .gpa .0 ≤ e .0 → Aliases r a e new (next-of r at) ss
-  aliases-on g = rw (w .asks l .0) (aliases-at r a e (next-of r at) ss (meets-on r a e at ss (w .asks l .1) l h g))
-
-module _ (self : Remapper) (s : Segment) (new : Bool) (ss : List Segment) (hold : Holds self ss) (z : ℕ) (ez : z ≡ spanEnd s .0) where
-  same-end : overlaps (s .gpa) (s .size * s .repeat) ss ≡ hitsAny (s .gpa) (record { 0 = z }) ss
+module _ (self : Remapper) (s : Segment) (good : Good s) (new : Bool) (ss : List Segment) (hold : Holds self ss) (z : ℕ) (ez : z ≡ spanEnd s .0) where
+  -- a span is not empty
+  same-end : overlaps (s .gpa) (s .size * s .repeat) ss ≡ any (touched (s .gpa) (record { 0 = z })) ss
   unfolding overlaps spanEnd guestUp
-  same-end = rw ez
+  same-end = rw (ez, ne-eqb (s .size * s .repeat) 0 (λ e. omega (arith, mul-le-mul-left (s .size) (good .times))))
 
-  pub insert-aliased : new ≡ true → true ≡ hitsAny (s .gpa) (record { 0 = z }) ss
+  pub insert-aliased : new ≡ true → true ≡ any (touched (s .gpa) (record { 0 = z })) ss
       → Does self (onInsert new s ss) (inserted new s ss) (record { answer = Refused AlreadyAliased; remapper = self })
   unfolding ask
   insert-aliased n h = rw n (refuses self _ _ _ AlreadyAliased refl (simp (same-end ∙ sym h)))
 
-  module _ (off : new ≡ true → hitsAny (s .gpa) (record { 0 = z }) ss ≡ false) (i : Bool) (ei : i ≡ isIdentity (s .hpa) (s .gpa) (s .repeat)) where
+  module _ (off : new ≡ true → any (touched (s .gpa) (record { 0 = z })) ss ≡ false) (i : Bool) (ei : i ≡ isIdentity (s .hpa) (s .gpa) (s .repeat)) where
     pub insert-same : (new && i) ≡ true → Does self (onInsert new s ss) (inserted new s ss) (record { answer = Accepted 0; remapper = self })
     unfolding ask mapped
     insert-same q = let w = both new i q in rw (w .0) (accepts self _ _ self (simp (same-end ∙ off (w .0), sym ei ∙ w .1)) (simp (sym ei ∙ w .1) hold))
@@ -407,7 +409,7 @@ module _ (self : Remapper) (ss : List Segment) (hold : Holds self ss) (a e : Hos
     host-cuts d out m =
         accepts self _ _ out (then-host ∙ rw (← walked-host a e ss, ← d)) (rw (← walked-host a e ss) m)
 
-module _ (self : Remapper) (c : Compartment) (hold : Holds self (c .segments)) (h : HostAddr) (n : ℕ) where
+module _ (self : Remapper) (c : Compartment) (hold : Sound self (c .segments)) (h : HostAddr) (n : ℕ) where
   pub unmap-large : 2 ^ 64 ≤ h .0 + n → Does self (onUnmap c h n) (unmapped h n (c .segments)) (record { answer = Refused Overflow; remapper = self })
   unfolding onUnmap ask
   unmap-large a = refuses self _ _ _ Overflow refl (rw (fits-no (h .0 + n) a))
@@ -418,7 +420,7 @@ module _ (self : Remapper) (c : Compartment) (hold : Holds self (c .segments)) (
   unmap-cuts a = record {
     range = omega arith;
     before = c .segments;
-    held = hold;
+    sound = hold;
     asks = rw (fits-yes (h .0 + n) a);
     leaves = refl;
   }
@@ -441,7 +443,7 @@ module _ (self : Remapper) (a : Answer) (ss : List Segment) (r : Change) (d : De
       let w = as-put s e in rw (w .asks, w .leaves) at (f (w .before) (w .held) (λ n. absurd (true≢false n)))
 
   pub did-cut : (p : Span) → r ≡ Cut p → (u : Changed) → CutsOut self p u → Does self a ss u
-  did-cut p e u f = let w = as-cut p e in rw (w .asks, w .leaves) at (f (w .before) (w .held))
+  did-cut p e u f = let w = as-cut p e in rw (w .asks, w .leaves) at (f (w .before) (w .sound))
 
   pub did-keep : (x : Answer) → r ≡ Keep x → Does self a ss (record { remapper = self; answer = x })
   did-keep x e = subst (Decides self a ss) e d

@@ -19,7 +19,7 @@ use Rattle.capability_engine.specs.declared.remapper.Span.{Span}
 use Rattle.capability_engine.specs.declared.remapper.Span.the-variants.{Host, Guest}
 use Rattle.capability_engine.specs.declared.remapper.Left.{Left}
 use Rattle.capability_engine.specs.declared.remapper.Left.the-variants.{Two}
-use Rattle.capability_engine.specs.RemapHeld.{Holds}
+use Rattle.capability_engine.specs.RemapHeld.{Holds, Sound}
 use Rattle.capability_engine.specs.RemapAsking.{inRange, leftOf, askAll, nothingAsked, nothingFound, findStep, hasHalf, walked, isTwo, Trimmable}
 use Rattle.capability_engine.specs.RemapAnswers.{Does, done, onCut, cutTo, canFirst, thenOrder}
 use Rattle.capability_engine.proofs.RemapWalks.{segment-at, next-of, Asks, asks-start, asks-end, asks-on, Orders, orders-start, orders-end, orders-on}
@@ -73,15 +73,15 @@ record Kind (self : Remapper) (p : Span) (ss : List Segment) (f : Found) : Type 
       → Does self (onCut p ss) (cutTo p ss) (record { answer = x; remapper = self })
   passed : (v : ℕ) → canFirst p (f .asked) (self .list .count) ≡ Accepted v → Passed self p ss f
 
-kind : (self : Remapper) (p : Span) → inRange p → (ss : List Segment) → Holds self ss → (f : Found) → Told p ss f → Kind self p ss f
+kind : (self : Remapper) (p : Span) → inRange p → (ss : List Segment) → Sound self ss → (f : Found) → Told p ss f → Kind self p ss f
 unfolding canFirst hasHalf
 kind self (Host a e) l ss hold f w = record {
-  first = λ x q z y. host-first self ss hold a e (f .asked) (w .asks) x q z y;
+  first = λ x q z y. host-first self ss (hold .held) a e (f .asked) (w .asks) x q z y;
   passed = λ v y. record {
-    clean = host-clean self ss hold a e (f .asked) (w .asks) _ refl v y;
-    trims = host-trimmable self ss hold a e (f .asked) (w .asks) _ refl v y;
-    unsorted = host-order self ss hold a e (f .asked) (w .asks) _ refl v y;
-    whole = λ c. host-cuts self ss hold a e (f .asked) (w .asks) _ refl v y;
+    clean = host-clean self ss (hold .held) a e (f .asked) (w .asks) _ refl v y;
+    trims = host-trimmable self ss (hold .held) a e (f .asked) (w .asks) _ refl v y;
+    unsorted = host-order self ss (hold .held) a e (f .asked) (w .asks) _ refl v y;
+    whole = λ c. host-cuts self ss (hold .held) a e (f .asked) (w .asks) _ refl v y;
     two = λ s t u d. refl;
     good = λ c. absurd (true≢false (sym c));
     room = λ c. absurd (true≢false (sym c));
@@ -102,7 +102,7 @@ kind self (Guest a e) l ss hold f w = record {
   };
 }
 
-module _ (self : Remapper) (p : Span) (l : inRange p) (ss : List Segment) (hold : Holds self ss) (f : Found) (w : Told p ss f)
+module _ (self : Remapper) (p : Span) (l : inRange p) (ss : List Segment) (hold : Sound self ss) (f : Found) (w : Told p ss f)
     (x : Answer) (q : x ≡ thenOrder (canFirst p (f .asked) (self .list .count)) (f .order .sorted)) where
   all-kinds : Kind self p ss f
   all-kinds = kind self p l ss hold f w

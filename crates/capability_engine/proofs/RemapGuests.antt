@@ -5,13 +5,14 @@ use mathlib.Core.List.{List, [], _∷_}
 use mathlib.Core.Bool.{Bool, true, false, not, _&&_, _||_, true≢false}
 use native.Mathlib.Omega.{arith}
 use lib.ListN.{length}
-use borrow.Author.Tests.{lt-ltb, le-ltb, le-leb, lt-leb, leb-true, leb-false, ltb-true, ltb-false, eq-eqb, ne-eqb, eqb-true}
+use borrow.Author.Tests.{lt-ltb, le-ltb, le-leb, lt-leb, leb-true, leb-false, ltb-true, ltb-false, eq-eqb, ne-eqb, eqb-true, eqb-false}
 use Rattle.definitions.specs.Tests.{_<?_, _≤?_, _=?_, if_then_else_, bit, fits, guestUp, all, any, keep, each}
 use Rattle.definitions.specs.Segments.{spanEnd, place, placeAll, inOrder, front, rest, touched, spanWhole, spanInside, spanLeft, spanHalf, spanCut, unmappedGpa}
 use Rattle.definitions.specs.Reckoning.{Compartment}
 use Rattle.definitions.specs.Questions.{ask, accepted, valueOf, onUnmapGpa}
 use Rattle.definitions.proofs.Passed.{passed}
-use Rattle.definitions.proofs.SegmentLaws.{Good, AllGood, rest-good, place-order}
+use Rattle.definitions.proofs.SegmentLaws.{Good, AllGood, Singles, rest-good, place-order}
+use Rattle.definitions.proofs.GuestLaws.{others-untouched}
 use Rattle.definitions.specs.declared.addr.GuestAddr.{GuestAddr}
 use Rattle.definitions.specs.declared.remapper.Segment.{Segment}
 use Rattle.definitions.specs.declared.answer.Refusal.{Refusal}
@@ -22,7 +23,7 @@ use Rattle.capability_engine.specs.declared.remapper.Remapper.{Remapper}
 use Rattle.capability_engine.specs.declared.remapper.Asked.{Asked}
 use Rattle.capability_engine.specs.declared.remapper.Span.the-variants.{Guest}
 use Rattle.capability_engine.specs.declared.remapper.Left.the-variants.{Gone, Kept}
-use Rattle.capability_engine.specs.RemapHeld.{Holds}
+use Rattle.capability_engine.specs.RemapHeld.{Holds, Sound}
 use Rattle.capability_engine.specs.RemapAsking.{leftOf, okFor, repeats, halfOf, askGuest, askStep, askAll, nothingAsked, onward, walked, isTwo, Trimmable}
 use Rattle.capability_engine.specs.RemapAnswers.{Does, ToCut, done, onSpan, canStart, canUnmapGpa}
 use Rattle.capability_engine.proofs.RemapParts.{both, or-false, not-so, not-repeated, half-small}
@@ -36,24 +37,14 @@ module _ (k : Asked) (n : ℕ) where
   unfolding canUnmapGpa ask
   span-repeats b = rw b
 
-  module _ (b : k .bad ≡ false) (f : Bool) (q : f ≡ (k .split && k .more)) where
-    pub span-others : f ≡ true → Refused OthersTouched ≡ canUnmapGpa k n
+  module _ (b : k .bad ≡ false) (t : Bool) (r : t ≡ (k .split && (64 ≤? n))) where
+    pub span-full : t ≡ true → Refused NoSlot ≡ canUnmapGpa k n
     unfolding canUnmapGpa ask
-    span-others e = let p = both (k .split) (k .more) (sym q ∙ e) in rw (b, p .0, p .1)
+    span-full z = rw (b, not-both (k .split) n (sym r ∙ z))
 
-    module _ (e : f ≡ false) (t : Bool) (r : t ≡ (k .split && (64 ≤? n))) where
-      alone : (c d : Bool) → (c && d) ≡ false → (not c || not d) ≡ true
-      alone true true z = absurd (true≢false z)
-      alone true false z = refl
-      alone false d z = refl
-
-      pub span-full : t ≡ true → Refused NoSlot ≡ canUnmapGpa k n
-      unfolding canUnmapGpa ask
-      span-full z = rw (b, alone (k .split) (k .more) (sym q ∙ e), not-both (k .split) n (sym r ∙ z))
-
-      pub span-fits : t ≡ false → Accepted 0 ≡ canUnmapGpa k n
-      unfolding canUnmapGpa ask
-      span-fits z = rw (b, alone (k .split) (k .more) (sym q ∙ e), not-one (k .split) n (sym r ∙ z))
+    pub span-fits : t ≡ false → Accepted 0 ≡ canUnmapGpa k n
+    unfolding canUnmapGpa ask
+    span-fits z = rw (b, not-one (k .split) n (sym r ∙ z))
 
 -- ---- what the walk says of the list
 
@@ -67,31 +58,6 @@ module _ (a e : GuestAddr) where
   unfolding askStep askGuest
   span-bads k [] = sym (or-none (k .bad))
   span-bads k (s ∷ ss) = span-bads (askStep (Guest a e) k s) ss ∙ or-assoc (k .bad) (repeats a e s) (any (repeats a e) ss)
-
-  pub span-more : (k : Asked) (ss : List Segment) → askAll (Guest a e) k ss .more ≡ (k .more || (2 ≤? bit (k .one) + length (keep (touched a e) ss)))
-  unfolding askStep askGuest
-  span-more k [] = go (k .more) (k .one)
-    where
-      go : (m o : Bool) → m ≡ (m || (2 ≤? bit o + 0))
-      go true o = refl
-      go false true = refl
-      go false false = refl
-  span-more k (s ∷ ss) = span-more (askStep (Guest a e) k s) ss ∙ go (touched a e s) refl (k .more) (k .one)
-    where
-      l : ℕ
-      l = length (keep (touched a e) ss)
-
-      go : (t : Bool) → touched a e s ≡ t → (m o : Bool)
-          → ((m || (o && touched a e s)) || (2 ≤? bit (o || touched a e s) + length (keep (touched a e) ss)))
-          ≡ (m || (2 ≤? bit o + length (keep (touched a e) (s ∷ ss))))
-      go true d true o = refl
-      go true d false true = simp d (sym (le-leb 2 (1 + suc (length (keep (touched a e) ss))) (omega arith)))
-      go true d false false =
-          let q : 0 + suc (length (keep (touched a e) ss)) ≡ 1 + length (keep (touched a e) ss) = omega arith in
-          simp (d, q)
-      go false d true o = refl
-      go false d false true = simp d
-      go false d false false = simp d
 
   -- question 15
   pub span-fifteen : (ss : List Segment) → all (λ s. spanWhole a e s || (s .repeat =? 1)) (keep (touched a e) ss) ≡ not (any (repeats a e) ss)
@@ -248,16 +214,6 @@ module _ (a e : GuestAddr) where
   none-split (s ∷ ss) h =
       let o = or-false (spanInside a e s) (any (spanInside a e) ss) h in simp (o .0) (none-split ss (o .1))
 
-  some-touched : (ss : List Segment) → a .0 ≤ e .0 → any (spanInside a e) ss ≡ true → 1 ≤ length (keep (touched a e) ss)
-  some-touched [] l h = absurd (true≢false (sym h))
-  some-touched (s ∷ ss) l h = go (touched a e s) refl (spanInside a e s) refl (λ q. some-touched ss l q)
-    where
-      go : (t : Bool) → touched a e s ≡ t → (d : Bool) → spanInside a e s ≡ d
-          → (any (spanInside a e) ss ≡ true → 1 ≤ length (keep (touched a e) ss)) → 1 ≤ length (keep (touched a e) (s ∷ ss))
-      go true p d q ih = simp p (omega arith)
-      go false p true q ih = absurd (true≢false (sym (split-touched s l q) ∙ p))
-      go false p false q ih = simp p (ih (simp q at h))
-
 -- ---- a new one keeps the order, and takes none away
 
 all-unplace : (p : Segment → Bool) (s : Segment) (ss : List Segment) → all p (place s ss) ≡ true → all p ss ≡ true
@@ -299,37 +255,23 @@ spanAsks ss a e =
 abbrev spanThen : List Segment → GuestAddr → GuestAddr → Answer
 spanThen ss a e = ask ((inOrder (spanCut a e ss), OutOfOrder) ∷ []) (Accepted 0)
 
--- one is touched, and not more
-one-only : (b : Bool) (n : ℕ) → (b ≡ true → 1 ≤ n) → (not b || not (2 ≤? 0 + n)) ≡ (not b || (n =? 1))
-one-only false n h = refl
-one-only true n h = go (2 ≤? 0 + n) refl
-  where
-    go : (c : Bool) → (2 ≤? 0 + n) ≡ c → not c ≡ (n =? 1)
-    go true d = let l = leb-true 2 (0 + n) d in sym (ne-eqb n 1 (λ z. omega arith))
-    go false d = let l = leb-false 2 (0 + n) d in sym (eq-eqb n 1 (omega (arith, h refl)))
-
-module _ (self : Remapper) (ss : List Segment) (hold : Holds self ss) (a e : GuestAddr) (l : a .0 ≤ e .0) (k : Asked) (w : k ≡ askAll (Guest a e) nothingAsked ss) (x : Answer) (q : x ≡ canUnmapGpa k (self .list .count)) where
+module _ (self : Remapper) (ss : List Segment) (hold : Sound self ss) (a e : GuestAddr) (l : a .0 < e .0) (k : Asked) (w : k ≡ askAll (Guest a e) nothingAsked ss) (x : Answer) (q : x ≡ canUnmapGpa k (self .list .count)) where
   bads : k .bad ≡ any (repeats a e) ss
   bads = ap (λ v. v .bad) w ∙ span-bads a e nothingAsked ss
 
   splits : k .split ≡ any (spanInside a e) ss
   splits = ap (λ v. v .split) w ∙ span-splits a e nothingAsked ss
 
-  mores : k .more ≡ (2 ≤? 0 + length (keep (touched a e) ss))
-  mores = ap (λ v. v .more) w ∙ span-more a e nothingAsked ss
-
+  -- behind 15, question 16 gets a yes
   same : x ≡ ask (spanAsks ss a e) (Accepted 0)
-  unfolding canUnmapGpa
-  same =
-      q
-      ∙ rw (
-        span-fifteen a e ss,
-        ← one-only (any (spanInside a e) ss) (length (keep (touched a e) ss)) (some-touched a e ss l),
-        bads,
-        splits,
-        mores,
-        used self ss hold,
-      )
+  unfolding canUnmapGpa ask
+  same = q ∙ go (any (repeats a e) ss) refl
+    where
+      go : (b : Bool) → any (repeats a e) ss ≡ b → canUnmapGpa k (self .list .count) ≡ ask (spanAsks ss a e) (Accepted 0)
+      go true d = rw (bads, span-fifteen a e ss, d)
+      go false d =
+          let o : Singles a e ss = span-fifteen a e ss ∙ ap not d in
+          rw (others-untouched a e l ss (hold .held .good) (hold .unshared) o, span-fifteen a e ss, bads, splits, used self ss (hold .held))
 
   goes : onSpan ss a e ≡ ask (spanAsks ss a e) (spanThen ss a e)
   unfolding onSpan ask
@@ -367,7 +309,7 @@ module _ (self : Remapper) (ss : List Segment) (hold : Holds self ss) (a e : Gue
           (where-so (any (spanInside a e) ss) (length (keep (touched a e) ss) =? 1) (passed (spanAsks ss a e) (Accepted 0) yes-span .0 .1 .0) (sym splits ∙ c))
 
       halves : (each (spanHalf a e) ss ≡ askAll (Guest a e) nothingAsked ss .half ∷ []) × Good (askAll (Guest a e) nothingAsked ss .half)
-      halves = one-half a e nothingAsked ss l (hold .good) (omega (arith, single)) (sym splits ∙ c) clean
+      halves = one-half a e nothingAsked ss (omega arith) (hold .held .good) (omega (arith, single)) (sym splits ∙ c) clean
 
       pub half-good : Good (k .half)
       half-good = subst Good (sym (ap (λ v. v .half) w)) (halves .1)
@@ -505,15 +447,16 @@ module _ (self : Remapper) (c : Compartment) (hold : Holds self (c .segments)) (
   gpa-fits z = going z .fit
 
   -- or the questions from 15 on are the rest
-  pub gpa-cuts : v ≡ 1 → ToCut self (onUnmapGpa c g n) (unmappedGpa g n (c .segments)) (Guest g (guestUp g n))
+  pub gpa-cuts : Sound self (c .segments) → v ≡ 1 → ToCut self (onUnmapGpa c g n) (unmappedGpa g n (c .segments)) (Guest g (guestUp g n))
   unfolding guestUp
-  gpa-cuts z =
+  gpa-cuts w z =
       let t = going z .asks in
-      let u : unmappedGpa g n (c .segments) ≡ spanCut g (guestUp g n) (c .segments) = left g n (c .segments) (or-false (length (c .segments) =? 0) (n =? 0) t .1) in
+      let some : (n =? 0) ≡ false = or-false (length (c .segments) =? 0) (n =? 0) t .1 in
+      let u : unmappedGpa g n (c .segments) ≡ spanCut g (guestUp g n) (c .segments) = left g n (c .segments) some in
       record {
-        range = omega arith;
+        range = omega (arith, eqb-false n 0 some);
         before = c .segments;
-        held = hold;
+        sound = w;
         asks = sym (gpa-is c g n t (going z .fit) u);
         leaves = sym u;
       }

@@ -241,4 +241,4 @@ span-good a e s l g ok =
 pub left-good : (p : Span) (s : Segment) → inRange p → Good s → okFor p s ≡ true → GoodLeft (leftOf p s)
 unfolding leftOf okFor
 left-good (Host a e) s l g ok = host-good a e s l g
-left-good (Guest a e) s l g ok = span-good a e s l g ok
+left-good (Guest a e) s l g ok = span-good a e s (omega arith) g ok

@@ -5,9 +5,9 @@ use mathlib.Core.List.{List, [], _∷_, _++_, append-assoc}
 use mathlib.Core.Bool.{Bool, true, false, _&&_, _||_, cond}
 use native.Mathlib.Omega.{arith}
 use lib.ListN.{length, getD, length-append}
-use borrow.Author.Tests.{lt-ltb, le-ltb, le-leb, lt-leb, leb-true}
+use borrow.Author.Tests.{le-leb, lt-leb, leb-true}
 use Rattle.definitions.specs.Tests.{_≤?_, all, any}
-use Rattle.definitions.specs.Segments.{hits, hitsAny, place, inOrder}
+use Rattle.definitions.specs.Segments.{touched, place, inOrder}
 use Rattle.definitions.proofs.SegmentLaws.{Good}
 use Rattle.definitions.specs.declared.addr.GuestAddr.{GuestAddr}
 use Rattle.definitions.specs.declared.remapper.Segment.{Segment}
@@ -78,32 +78,23 @@ module _ (r : Remapper) (at : ℕ) (ts : List Segment) (w : Some r at ts) where
   some-last l =
       omega (arith, ahead-none (r .links), zip-ahead r (w .prev) at (w .done) ts (w .zip), ap length (some-open l .are))
 
--- ---- does one hit?
+-- ---- is one touched?
 
 abbrev pub Meets : Remapper → GuestAddr → GuestAddr → ℕ → List Segment → Type 0
-Meets r a e at ss = (ts : List Segment) × Some r at ts × (hitsAny a e ts ≡ hitsAny a e ss)
+Meets r a e at ss = (ts : List Segment) × Some r at ts × (any (touched a e) ts ≡ any (touched a e) ss)
 
 pub meets-start : (r : Remapper) (a e : GuestAddr) (ss : List Segment) → Holds r ss → Meets r a e (r .head) ss
 meets-start r a e ss h = (ss, some-start r ss h, refl)
 
 module _ (r : Remapper) (a e : GuestAddr) (at : ℕ) (ss : List Segment) (m : Meets r a e at ss) where
-  pub meets-end : 64 ≤ at → false ≡ hitsAny a e ss
-  unfolding hitsAny
-  meets-end l = ap (hitsAny a e) (sym (some-end r at (m .0) (m .1) l)) ∙ m .2
+  pub meets-end : 64 ≤ at → false ≡ any (touched a e) ss
+  meets-end l = ap (any (touched a e)) (sym (some-end r at (m .0) (m .1) l)) ∙ m .2
 
-  pub meets-hit : at < 64 → hits a e (segment-at r at) ≡ true → true ≡ hitsAny a e ss
-  unfolding hitsAny
-  meets-hit l h = let o = some-open r at (m .0) (m .1) l in sym (ap (hitsAny a e) (o .are) ∙ rw h) ∙ m .2
+  pub meets-hit : at < 64 → touched a e (segment-at r at) ≡ true → true ≡ any (touched a e) ss
+  meets-hit l h = let o = some-open r at (m .0) (m .1) l in sym (ap (any (touched a e)) (o .are) ∙ rw h) ∙ m .2
 
-  pub meets-stop : at < 64 → hits a e (segment-at r at) ≡ false → e .0 < segment-at r at .gpa .0 → false ≡ hitsAny a e ss
-  unfolding hitsAny
-  meets-stop l h g = let o = some-open r at (m .0) (m .1) l in sym (ap (hitsAny a e) (o .are) ∙ rw (h, lt-ltb (e .0) (segment-at r at .gpa .0) g)) ∙ m .2
-
-  pub meets-on : at < 64 → hits a e (segment-at r at) ≡ false → segment-at r at .gpa .0 ≤ e .0 → Meets r a e (next-of r at) ss
-  unfolding hitsAny
-  meets-on l h g =
-      let o = some-open r at (m .0) (m .1) l in
-      (o .more, o .on, sym (ap (hitsAny a e) (o .are) ∙ rw (h, le-ltb (e .0) (segment-at r at .gpa .0) g)) ∙ m .2)
+  pub meets-on : at < 64 → touched a e (segment-at r at) ≡ false → Meets r a e (next-of r at) ss
+  meets-on l h = let o = some-open r at (m .0) (m .1) l in (o .more, o .on, sym (ap (any (touched a e)) (o .are) ∙ rw h) ∙ m .2)
 
 -- ---- is the list in order?
 

@@ -32,7 +32,7 @@ use Rattle.capability_engine.specs.declared.script.Heard.{Heard}
 use Rattle.capability_engine.specs.declared.script.Task.the-variants.{Tell, Regions, Segments, Print, Nothing}
 use Rattle.capability_engine.specs.PoolOwn.{heap}
 use Rattle.capability_engine.specs.RegionAsks.{Tracked}
-use Rattle.capability_engine.specs.RemapHeld.{IsHeld}
+use Rattle.capability_engine.specs.RemapHeld.{IsHeld, IsSound}
 use Rattle.capability_engine.specs.CompartmentGrown.{Holds, trackersOf, Grown, Sized}
 use Rattle.capability_engine.specs.CompartmentSteps.{onRegions, onSegments, noTracker, OnRegions, OnSegments}
 use Rattle.capability_engine.specs.ScriptFeed.{owed, due, comes, Feeds}
@@ -40,7 +40,7 @@ use Rattle.capability_engine.specs.ScriptSteps.{taskPrints, taskLeaves, 
 use Rattle.capability_engine.proofs.PoolOwns.{bit-le}
 use Rattle.capability_engine.proofs.CompartmentLaws.{holds-long}
 use Rattle.capability_engine.proofs.CompartmentCalls.{getD-any}
-use Rattle.capability_engine.proofs.CompartmentFacts.{tracked, held, whole, stored-is, table, regions-grown, segments-answer, segments-grown}
+use Rattle.capability_engine.proofs.CompartmentFacts.{tracked, held, sound, whole, stored-is, table, regions-grown, segments-answer, segments-grown}
 use Rattle.capability_engine.proofs.ScriptPrints.{stopped, adds-none, adds-one, adds-more, adds-length, none-whole}
 
 -- what is left to do: it falls with each step
@@ -305,6 +305,9 @@ module _ (calls : List Call) (c : Script) (input out words next links gens : Lis
       pub segments-held : (d : Remapper) → IsHeld (getD (t .remappers) j d)
       segments-held d = (compartment (after (g .later)) j .segments, held words next links gens t (g .later) (g .grown) j (segments-sound .1) d)
 
+      pub segments-kept : (d : Remapper) → IsSound (getD (t .remappers) j d)
+      segments-kept d = (compartment (after (g .later)) j .segments, sound words next links gens t (g .later) (g .grown) j (segments-sound .1) d)
+
       pub going-segments : (d : Remapper) (u : SegmentChanged) (now′ : List ℕ) (r : Progress)
           → OnSegments x (getD (t .remappers) j d) u
           → now′ ≡ sets now (p .at) (answerLine (u .answer)) → r ≡ told moved 25 → p .at + 25 ≤ length now
@@ -314,7 +317,7 @@ module _ (calls : List Call) (c : Script) (input out words next links gens : Lis
           let same : compartmentOf x ≡ j = segments-sound .0 in
           let l : compartmentOf x < 8 = omega (arith, segments-sound) in
           let here : OnSegments x (getD (t .remappers) (compartmentOf x) d) u = rw same w in
-          let v = here (used (after (g .later))) (compartment (after (g .later)) (compartmentOf x)) (held words next links gens t (g .later) (g .grown) (compartmentOf x) l d) (segments-sound .2) in
+          let v = here (used (after (g .later))) (compartment (after (g .later)) (compartmentOf x)) (sound words next links gens t (g .later) (g .grown) (compartmentOf x) l d) (segments-sound .2) in
           let grown = segments-grown words next links gens t (g .later) (g .grown) x l (segments-sound .2) d u v in
           answered words next links gens (record { arena = t .arena; trackers = t .trackers; remappers = set (t .remappers) j (u .remapper) }) (g .later ++ (x ∷ [])) now′ r (u .answer) o q room
           (rw same at grown) (rw e (ap (λ (y : Answer). answerLine y ∷ []) (sym (segments-answer words next links gens t (g .later) (g .grown) x l (segments-sound .2) d u v)))) (rw e (after-snoc (g .later) x))

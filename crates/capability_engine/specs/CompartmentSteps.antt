@@ -16,7 +16,7 @@ use Rattle.capability_engine.specs.declared.region.Changed.{Changed as R
 use Rattle.capability_engine.specs.declared.remapper.Remapper.{Remapper}
 use Rattle.capability_engine.specs.declared.remapper.Change.{Change}
 use Rattle.capability_engine.specs.declared.remapper.Changed.{Changed as SegmentChanged}
-use Rattle.capability_engine.specs.RemapHeld.{Holds}
+use Rattle.capability_engine.specs.RemapHeld.{Sound}
 use Rattle.capability_engine.specs.RemapAnswers.{Does, Decides}
 use Rattle.capability_engine.specs.CompartmentGrown.{Trackers, Pooled}
 
@@ -77,10 +77,10 @@ OnRegions call tracker arena words next links gens words' next' links' gens' r =
 -- what a call on segments does, and what its first questions come to
 abbrev pub OnSegments : Call → Remapper → SegmentChanged → Type 0
 OnSegments call remapper r =
-    (n : ℕ) (c : Compartment) → Holds remapper (c .segments) → onSegments call ≡ true
+    (n : ℕ) (c : Compartment) → Sound remapper (c .segments) → onSegments call ≡ true
     → Does remapper (answerIn n c call) (reckon call c .segments) r
 
 abbrev pub AsksSegments : Call → Remapper → Change → Type 0
 AsksSegments call remapper r =
-    (n : ℕ) (c : Compartment) → Holds remapper (c .segments) → onSegments call ≡ true
+    (n : ℕ) (c : Compartment) → Sound remapper (c .segments) → onSegments call ≡ true
     → Decides remapper (answerIn n c call) (reckon call c .segments) r

@@ -23,7 +23,7 @@ use Rattle.capability_engine.specs.declared.remapper.Change.{Change}
 use Rattle.capability_engine.specs.declared.remapper.Change.the-variants.{Keep, Put, Cut}
 use Rattle.capability_engine.specs.declared.remapper.Changed.{Changed}
 use Rattle.capability_engine.specs.declared.remapper.Asked.{Asked}
-use Rattle.capability_engine.specs.RemapHeld.{Holds}
+use Rattle.capability_engine.specs.RemapHeld.{Holds, Sound}
 use Rattle.capability_engine.specs.RemapAsking.{inRange}
 
 -- a changing call, with the definitions' answer and the list that they leave
@@ -78,7 +78,7 @@ cutTo (Host a e) ss = hostCut a e ss
 cutTo (Guest a e) ss = spanCut a e ss
 
 abbrev pub CutsOut : Remapper → Span → Changed → Type 0
-CutsOut self p r = (ss : List Segment) → Holds self ss → Does self (onCut p ss) (cutTo p ss) r
+CutsOut self p r = (ss : List Segment) → Sound self ss → Does self (onCut p ss) (cutTo p ss) r
 
 -- what is still to be asked and done is what the call asks and does
 pub record ToPut (self : Remapper) (a : Answer) (ss : List Segment) (s : Segment) : Type 0 where
@@ -91,7 +91,7 @@ pub record ToPut (self : Remapper) (a : Answer) (ss : List Segment) (s : Segment
 pub record ToCut (self : Remapper) (a : Answer) (ss : List Segment) (p : Span) : Type 0 where
   pub range : inRange p
   pub before : List Segment
-  pub held : Holds self before
+  pub sound : Sound self before
   pub asks : onCut p before ≡ a
   pub leaves : cutTo p before ≡ ss
 
@@ -105,15 +105,15 @@ Overlaps self g n r = (c : Compartment) → Holds self (c .segments) → r ≡ o
 
 abbrev pub Maps : Remapper → HostAddr → GuestAddr → ℕ → ℕ → Change → Type 0
 Maps self h g n t r =
-    (c : Compartment) → Holds self (c .segments) → Decides self (onMap c h g n t) (mapped h g n t (c .segments)) r
+    (c : Compartment) → Sound self (c .segments) → Decides self (onMap c h g n t) (mapped h g n t (c .segments)) r
 
 abbrev pub Unmaps : Remapper → HostAddr → ℕ → Change → Type 0
 Unmaps self h n r =
-    (c : Compartment) → Holds self (c .segments) → Decides self (onUnmap c h n) (unmapped h n (c .segments)) r
+    (c : Compartment) → Sound self (c .segments) → Decides self (onUnmap c h n) (unmapped h n (c .segments)) r
 
 abbrev pub UnmapsGpa : Remapper → GuestAddr → ℕ → Change → Type 0
 UnmapsGpa self g n r =
-    (c : Compartment) → Holds self (c .segments) → Decides self (onUnmapGpa c g n) (unmappedGpa g n (c .segments)) r
+    (c : Compartment) → Sound self (c .segments) → Decides self (onUnmapGpa c g n) (unmappedGpa g n (c .segments)) r
 
 -- the questions that need no walk
 unfoldable pub canMap : HostAddr → GuestAddr → ℕ → ℕ → Answer
@@ -129,11 +129,11 @@ canUnmap k used = ask ((not (k .split) || (used <? 64), NoSlot) ∷ (not (k .bad
 unfoldable pub canStart : Bool → GuestAddr → ℕ → Answer
 canStart empty g n = if empty || (n =? 0) then Accepted 0 else ask ((fits (g .0 + n), Overflow) ∷ []) (Accepted 1)
 
+-- behind 15, question 16 gets a yes
 unfoldable pub canUnmapGpa : Asked → ℕ → Answer
 canUnmapGpa k used =
     ask
-    ((not (k .bad), Repeated) ∷ (not (k .split) || not (k .more), OthersTouched)
-    ∷ (not (k .split) || (used <? 64), NoSlot) ∷ [])
+    ((not (k .bad), Repeated) ∷ (not (k .split) || (used <? 64), NoSlot) ∷ [])
     (Accepted 0)
 
 -- of both kinds of range, and then the order

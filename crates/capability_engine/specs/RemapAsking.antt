@@ -19,10 +19,10 @@ use Rattle.capability_engine.specs.declared.remapper.Order.{Order}
 use Rattle.capability_engine.specs.declared.remapper.Found.{Found}
 use Rattle.capability_engine.specs.RemapHeld.{noSegment}
 
--- the start is at or below the end
+-- the start is at or below the end; a guest range is not empty
 abbrev pub inRange : Span → Type 0
 inRange (Host a e) = a .0 ≤ e .0
-inRange (Guest a e) = a .0 ≤ e .0
+inRange (Guest a e) = a .0 < e .0
 
 -- what a range leaves of a segment in its place, by the tests that the code makes
 abbrev pub leftHost : HostAddr → HostAddr → Segment → Left
@@ -64,8 +64,6 @@ halfOf a e s h = if spanInside a e s && (s .repeat =? 1) then rest (e .0 - s .gp
 unfoldable pub askHost : HostAddr → HostAddr → Asked → Segment → Asked
 askHost a e k s =
     record {
-      one = k .one;
-      more = k .more;
       split = k .split || hostInside a e s;
       half = k .half;
       bad = k .bad || frontCut a e s;
@@ -74,8 +72,6 @@ askHost a e k s =
 unfoldable pub askGuest : GuestAddr → GuestAddr → Asked → Segment → Asked
 askGuest a e k s =
     record {
-      one = k .one || touched a e s;
-      more = k .more || (k .one && touched a e s);
       split = k .split || spanInside a e s;
       half = halfOf a e s (k .half);
       bad = k .bad || repeats a e s;
@@ -90,7 +86,7 @@ askAll p k [] = k
 askAll p k (s ∷ ss) = askAll p (askStep p k s) ss
 
 abbrev pub nothingAsked : Asked
-nothingAsked = record { one = false; more = false; split = false; half = noSegment; bad = false }
+nothingAsked = record { split = false; half = noSegment; bad = false }
 
 -- the list after the walk: where one becomes two in its place, the walk ends
 abbrev pub onward : Left → List Segment → List Segment → List Segment

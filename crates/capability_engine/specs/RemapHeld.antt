@@ -8,6 +8,7 @@ use lib.ListN.{length, getD, set}
 use Rattle.free_list.specs.Stack.{FreeListCall, after}
 use Rattle.free_list.specs.Grown.{Grown}
 use Rattle.definitions.proofs.SegmentLaws.{AllGood}
+use Rattle.definitions.proofs.GuestLaws.{Unshared}
 use Rattle.definitions.specs.declared.remapper.Segment.{Segment}
 use Rattle.capability_engine.specs.declared.remapper.Remapper.{Remapper}
 
@@ -51,6 +52,14 @@ pub record Holds (r : Remapper) (ss : List Segment) : Type 0 where
 
 abbrev pub IsHeld : Remapper → Type 0
 IsHeld r = (ss : List Segment) × Holds r ss
+
+-- and the list is as calls leave it: where a segment with repeat 1 reaches a guest address, no other does
+pub record Sound (r : Remapper) (ss : List Segment) : Type 0 where
+  pub held : Holds r ss
+  pub unshared : Unshared ss
+
+abbrev pub IsSound : Remapper → Type 0
+IsSound r = (ss : List Segment) × Sound r ss
 
 -- the last of a list, or d
 abbrev pub lastOr : ℕ → List ℕ → ℕ

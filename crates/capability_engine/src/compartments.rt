@@ -331,7 +331,7 @@ impl Tables {
         Answer::Accepted(tracker.get_refcount(next, words, start, end))
     }
 
-    // Does a range of guest addresses overlap a segment of a compartment, as the Rust asks it?
+    // Does a range of guest addresses share one with the span of a stored segment of a compartment?
     pub fn overlaps(
         self,
         compartment: u64,

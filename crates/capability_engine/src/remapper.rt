@@ -18,10 +18,10 @@ ghost use lib.Seq.{sets};
 ghost use Rattle.free_list.specs.Stack.{FreeListCall};
 ghost use Rattle.free_list.specs.Grown.{Grown, IsGrown, Allocates, Frees};
 ghost use Rattle.definitions.proofs.SegmentLaws.{Good};
-ghost use Rattle.definitions.specs.Segments.{segment, hits, isIdentity, hostEnd, spanEnd, front as frontOf, rest as restOf, hostInside, touched, spanWhole, spanInside};
+ghost use Rattle.definitions.specs.Segments.{segment, isIdentity, hostEnd, spanEnd, front as frontOf, rest as restOf, hostInside, touched, spanWhole, spanInside};
 ghost use Rattle.definitions.specs.Questions.{frontCut};
 ghost use Rattle.definitions.specs.Pages.{segmentGroup};
-ghost use Rattle.capability_engine.specs.RemapHeld.{joinLinks, joinHead, Zip, Holds, IsHeld};
+ghost use Rattle.capability_engine.specs.RemapHeld.{joinLinks, joinHead, Zip, Holds, IsHeld, IsSound};
 ghost use Rattle.capability_engine.specs.RemapAsking.{leftHost, leftGuest, leftOf, okGuest, okFor, askHost, askGuest, askStep, inRange, orderAt, orderStep, nothingFound, findStep, hasHalf, repeats, halfOf};
 ghost use Rattle.capability_engine.specs.RemapAnswers.{Does, Decides, canMap, canUnmap, canStart, canUnmapGpa, canFirst, thenOrder, Inserts, CutsOut, Overlaps, Maps, Unmaps, UnmapsGpa};
 ghost use Rattle.capability_engine.specs.RemapListing.{Copied, IsAhead, Starts, Steps};
@@ -74,9 +74,6 @@ pub(crate) enum Left {
 
 // What the questions of an unmap want to know of the list.
 pub(crate) struct Asked {
-    // one is touched, and more than one
-    pub(crate) one: bool,
-    pub(crate) more: bool,
     // one becomes two, and its second half, of a guest range
     pub(crate) split: bool,
     pub(crate) half: Segment,
@@ -195,18 +192,6 @@ fn rest(n: u64, s: Segment) -> Segment
     }
 }
 
-// Does the segment's guest span hold an end of the range?
-fn is_hit(start: GuestAddr, end: GuestAddr, s: Segment) -> bool
-    requires { ⌜ Good s ⌝ }
-    ensures { λ r. ⌜ r ≡ hits start end s ⌝ }
-{
-    let a = start.0;
-    let e = end.0;
-    let g = s.gpa.0;
-    let z = span_end(s);
-    or(and(g <= a, a < z), and(g < e, e <= z))
-}
-
 fn is_host_inside(start: HostAddr, end: HostAddr, s: Segment) -> bool
     requires { ⌜ Good s ⌝ }
     ensures { λ r. ⌜ r ≡ hostInside start end s ⌝ }
@@ -224,6 +209,7 @@ fn is_front_cut(start: HostAddr, end: HostAddr, s: Segment) -> bool
     and(and(start.0 <= h, h < end.0), end.0 < host_end(s))
 }
 
+// Do the range and the segment's guest span share an address?
 fn is_touched(start: GuestAddr, end: GuestAddr, s: Segment) -> bool
     requires { ⌜ Good s ⌝ }
     ensures { λ r. ⌜ r ≡ touched start end s ⌝ }
@@ -341,13 +327,7 @@ fn ask_host(start: HostAddr, end: HostAddr, k: Asked, s: Segment) -> Asked
     let half = k.half;
     let split = or(k.split, is_host_inside(start, end, s));
     let bad = or(k.bad, is_front_cut(start, end, s));
-    Asked {
-        one: k.one,
-        more: k.more,
-        split,
-        half,
-        bad,
-    }
+    Asked { split, half, bad }
 }
 
 // The questions of a guest range, of one segment more.
@@ -355,21 +335,11 @@ fn ask_guest(start: GuestAddr, end: GuestAddr, k: Asked, s: Segment) -> Asked
     requires { ⌜ Good s × (start .0 ≤ end .0) ⌝ }
     ensures { λ r. ⌜ r ≡ askGuest start end k s ⌝ }
 {
-    let t = is_touched(start, end, s);
     let before = k.half;
     let half = second(start, end, s, before);
-    let both = and(k.one, t);
-    let one = or(k.one, t);
-    let more = or(k.more, both);
     let split = or(k.split, is_span_inside(start, end, s));
     let bad = or(k.bad, is_repeated(start, end, s));
-    Asked {
-        one,
-        more,
-        split,
-        half,
-        bad,
-    }
+    Asked { split, half, bad }
 }
 
 fn ask_one(span: Span, k: Asked, s: Segment) -> Asked
@@ -426,8 +396,6 @@ fn first_found() -> Found
 {
     let half = new_segment(HostAddr(0), GuestAddr(0), 0, 0);
     let asked = Asked {
-        one: false,
-        more: false,
         split: false,
         half,
         bad: false,
@@ -510,15 +478,12 @@ fn can_start(empty: bool, gpa: GuestAddr, size: u64) -> Answer
     Answer::Accepted(1)
 }
 
-// Questions 15, 16 and 12 of a guest range, with so many slots in use.
+// Questions 15 and 12 of a guest range, with so many slots in use. Behind 15, question 16 never gets a no.
 fn can_unmap_gpa(k: Asked, used: usize) -> Answer
     ensures { λ r. ⌜ r ≡ canUnmapGpa k used ⌝ }
 {
     if k.bad {
         return Answer::Refused(Refusal::Repeated);
-    }
-    if and(k.split, k.more) {
-        return Answer::Refused(Refusal::OthersTouched);
     }
     if and(k.split, 64 <= used) {
         return Answer::Refused(Refusal::NoSlot);
@@ -632,17 +597,13 @@ impl Remapper {
         let mut asking = asked_from(new, out.head);
         while asking < 64 {
             let t = out.segments[asking];
-            if is_hit(start, end, t) {
+            if is_touched(start, end, t) {
                 return Changed {
                     remapper: out,
                     answer: Answer::Refused(Refusal::AlreadyAliased),
                 };
             }
-            if end.0 < t.gpa.0 {
-                asking = 64;
-            } else {
-                asking = out.links[asking] as usize;
-            }
+            asking = out.links[asking] as usize;
         }
         if and(new, is_identity(s.hpa, start, s.repeat)) {
             return Changed {
@@ -688,7 +649,7 @@ impl Remapper {
 
     // A range is cut out of each segment: the questions in one walk, and then another in which each becomes what is left of it.
     pub(crate) fn cut(self, span: Span) -> Changed
-        requires { ⌜ inRange span × IsHeld self ⌝ }
+        requires { ⌜ inRange span × IsSound self ⌝ }
         ensures { λ r. ⌜ CutsOut self span r ⌝ }
     {
         let mut out = self;
@@ -749,7 +710,7 @@ impl Remapper {
         }
     }
 
-    // Does a stored guest span hold an end of the range? A miss behind the range's end stops the walk.
+    // Does a stored guest span share an address with the range? With an empty range none does.
     pub(crate) fn overlaps(self, start: GuestAddr, size: u64) -> Answer
         requires { ⌜ IsHeld self ⌝ }
         ensures { λ r. ⌜ Overlaps self start size r ⌝ }
@@ -758,16 +719,15 @@ impl Remapper {
         if MOST - a < size {
             return Answer::Refused(Refusal::Overflow);
         }
-        let e = a + size;
+        if size == 0 {
+            return Answer::Accepted(0);
+        }
+        let end = GuestAddr(a + size);
         let mut at = self.head;
         while at < 64 {
             let s = self.segments[at];
-            if is_hit(start, GuestAddr(e), s) {
+            if is_touched(start, end, s) {
                 return Answer::Accepted(1);
-            }
-            let g = s.gpa.0;
-            if e < g {
-                return Answer::Accepted(0);
             }
             at = self.links[at] as usize;
         }

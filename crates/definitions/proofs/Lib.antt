@@ -11,9 +11,11 @@ pub mod PageLaws
 pub mod UncoveredLaws
 pub mod StreamLaws
 pub mod SegmentLaws
+pub mod GuestLaws
 pub mod Passed
 pub mod Reckoned
 pub mod Stored
+pub mod Sixteen
 pub mod Pool
 pub mod Demand
 pub mod Tables

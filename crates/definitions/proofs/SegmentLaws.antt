@@ -170,16 +170,16 @@ length-placeAll [] ts = omega arith
 length-placeAll (s ∷ ss) ts = omega (arith, length-placeAll ss (place s ts), length-place s ts)
 
 -- question 15: each segment touched but not wholly covered has repeat 1
-abbrev Single : GuestAddr → GuestAddr → Segment → Type 0
+abbrev pub Single : GuestAddr → GuestAddr → Segment → Type 0
 Single a e s = touched a e s ≡ true → spanWhole a e s ≡ false → s .repeat ≡ 1
 
 -- the end of a guest span with repeat 1
-single-end : (s : Segment) → s .repeat ≡ 1 → spanEnd s .0 ≡ s .gpa .0 + s .size
+pub single-end : (s : Segment) → s .repeat ≡ 1 → spanEnd s .0 ≡ s .gpa .0 + s .size
 unfolding spanEnd guestUp
 single-end s o = rw o (omega arith)
 
 -- how the range meets a guest span
-data Meeting (a e : GuestAddr) (s : Segment) : Type 0 where
+pub data Meeting (a e : GuestAddr) (s : Segment) : Type 0 where
   apart : touched a e s ≡ false → Meeting a e s
   whole : touched a e s ≡ true → spanWhole a e s ≡ true → Meeting a e s
   back : touched a e s ≡ true → spanWhole a e s ≡ false → (s .gpa .0 <? a .0) ≡ true → s .gpa .0 < a .0
@@ -187,7 +187,7 @@ data Meeting (a e : GuestAddr) (s : Segment) : Type 0 where
   fore : touched a e s ≡ true → spanWhole a e s ≡ false → (s .gpa .0 <? a .0) ≡ false → s .gpa .0 < e .0
       → e .0 < spanEnd s .0 → Meeting a e s
 
-meeting : (a e : GuestAddr) (s : Segment) → Meeting a e s
+pub meeting : (a e : GuestAddr) (s : Segment) → Meeting a e s
 unfolding touched spanWhole
 meeting a e s = go (touched a e s) refl (spanWhole a e s) refl (s .gpa .0 <? a .0) refl
   where
@@ -229,13 +229,13 @@ length-left a e s = go (meeting a e s)
     go (fore d f k i j) = simp (d, f, k) (omega arith)
 
 -- a range strictly inside a span touches it
-record Inside (a e : GuestAddr) (s : Segment) : Type 0 where
-  touches : touched a e s ≡ true
-  partly : spanWhole a e s ≡ false
-  from : s .gpa .0 < a .0
-  to : e .0 < spanEnd s .0
+pub record Inside (a e : GuestAddr) (s : Segment) : Type 0 where
+  pub touches : touched a e s ≡ true
+  pub partly : spanWhole a e s ≡ false
+  pub from : s .gpa .0 < a .0
+  pub to : e .0 < spanEnd s .0
 
-inside : (a e : GuestAddr) (s : Segment) → a .0 ≤ e .0 → spanInside a e s ≡ true → Inside a e s
+pub inside : (a e : GuestAddr) (s : Segment) → a .0 ≤ e .0 → spanInside a e s ≡ true → Inside a e s
 unfolding spanInside touched spanWhole
 inside a e s q d =
     let b = both (s .gpa .0 <? a .0) (e .0 <? spanEnd s .0) d in
@@ -264,7 +264,7 @@ abbrev pub Singles : GuestAddr → GuestAddr → List Segment → Type 0
 Singles a e ss = all (λ s. spanWhole a e s || (s .repeat =? 1)) (keep (touched a e) ss) ≡ true
 
 -- of the first segment, and of the others
-singles : (a e : GuestAddr) (s : Segment) (ss : List Segment) → Singles a e (s ∷ ss) → Single a e s × Singles a e ss
+pub singles : (a e : GuestAddr) (s : Segment) (ss : List Segment) → Singles a e (s ∷ ss) → Single a e s × Singles a e ss
 singles a e s ss h = go (touched a e s) refl h
   where
     go : (t : Bool) → touched a e s ≡ t

@@ -1,17 +1,18 @@
--- What holds of each compartment after every list of calls: its segments are good, in order and at most 64, an address
--- that is not held has no value, and no count is above 65,535.
-use Prim.Native.Nat.{ℕ, zero, suc, _+_, _-_, _<_, _≤_}
+-- What holds of each compartment after every list of calls: its segments are good, in order and at most 64, one with repeat 1
+-- shares no guest address with another, an address that is not held has no value, and no count is above 65,535.
+use Prim.Native.Nat.{ℕ, zero, suc, _+_, _-_, _*_, _<_, _≤_}
 use mathlib.Core.Path.{_≡_, refl, subst}
 use mathlib.Core.Bool.{Bool, true, false, _&&_, _||_}
 use mathlib.Core.List.{List, [], _∷_}
 use lib.ListN.{length}
 use native.Mathlib.Omega.{arith}
+use native.Mathlib.Nat.{mul-le-mul-left}
 use borrow.Author.Tests.{ltb-true, eqb-true, eqb-false, ne-eqb}
 use Rattle.definitions.specs.Tests.{_<?_, _≤?_, _=?_, if_then_else_, bit, host, hostUp, guestUp, all, any}
 use Rattle.definitions.specs.Rights.{READ, WRITE, EXEC, SUPER, UNCACHEABLE, named}
 use Rattle.definitions.specs.Values.{nothing, raise, lower, changedIn}
 use Rattle.definitions.specs.Regions.{addressesFrom, addresses}
-use Rattle.definitions.specs.Segments.{segment, isIdentity, mapped, hostInside, hostCut, unmapped, spanInside, placeAll, spanCut, unmappedGpa, inOrder}
+use Rattle.definitions.specs.Segments.{segment, spanEnd, isIdentity, mapped, hostInside, hostCut, unmapped, spanInside, placeAll, spanCut, unmappedGpa, inOrder}
 use Rattle.definitions.specs.Reckoning.{Compartment, empty, withValues, withSegments, reckon}
 use Rattle.definitions.specs.Questions.{accepted, everyNamed, canRaise, onUnmapGpa}
 use Rattle.definitions.specs.Calls.{State, start, compartment, answerIn, next, after}
@@ -25,6 +26,7 @@ use Rattle.definitions.proofs.Bools.{Where, inn, low, high, where?, bot
 use Rattle.definitions.proofs.Lists.{Blank}
 use Rattle.definitions.proofs.RegionsAre.{raised-blank, lowered-blank}
 use Rattle.definitions.proofs.SegmentLaws.{AllGood, place-good, length-place, place-order, hostCut-good, length-hostCut, spanCut-good, length-spanCut}
+use Rattle.definitions.proofs.GuestLaws.{Unshared, within-unshared, hostCut-within, spanCut-within, place-unshared, overlaps-untouched}
 use Rattle.definitions.proofs.Passed.{AddPassed, MapPassed, UnmapPassed, UnmapGpaPassed, add-passed, map-passed, unmap-passed, unmapGpa-passed}
 use Rattle.definitions.proofs.Reckoned.{start-empty, always-next, always}
 
@@ -41,6 +43,7 @@ pub record Stored (c : Compartment) : Type 0 where
   pub good : AllGood (c .segments)
   pub order : inOrder (c .segments) ≡ true
   pub few : length (c .segments) ≤ 64
+  pub unshared : Unshared (c .segments)
   pub blank : Blank (c .values)
   pub counted : (x : HostAddr) → Counted (c .values x)
 
@@ -153,6 +156,7 @@ module _ (n : ℕ) (c : Compartment) (s : Stored c) where
     good = s .good;
     order = s .order;
     few = s .few;
+    unshared = s .unshared;
     blank = raised-blank a e r (c .values) (s .blank);
     counted = changed-counted (raise r) a e (c .values) (s .counted) (λ x i j.
         raise-counted r (c .values x) (s .counted x)
@@ -166,32 +170,38 @@ module _ (n : ℕ) (c : Compartment) (s : Stored c) where
     good = s .good;
     order = s .order;
     few = s .few;
+    unshared = s .unshared;
     blank = lowered-blank a e r (c .values) (s .blank);
     counted =
         changed-counted (lower r) a e (c .values) (s .counted) (λ x i j. lower-counted r (c .values x) (s .counted x));
   }
 
   -- another list of segments
-  segments-stored : (ss : List Segment) → AllGood ss → inOrder ss ≡ true → length ss ≤ 64 → Stored (withSegments c ss)
+  segments-stored : (ss : List Segment) → AllGood ss → inOrder ss ≡ true → length ss ≤ 64 → Unshared ss → Stored (withSegments c ss)
   unfolding withSegments
-  segments-stored ss g o l = record { good = g; order = o; few = l; blank = s .blank; counted = s .counted }
+  segments-stored ss g o l u = record { good = g; order = o; few = l; unshared = u; blank = s .blank; counted = s .counted }
 
   map-stored : (k : ℕ) (h : HostAddr) (g : GuestAddr) (m t : ℕ) → MapPassed c h g m t → Stored (reckon (Map k h g m t) c)
-  unfolding reckon mapped
+  unfolding reckon mapped segment spanEnd guestUp
   map-stored k h g m t p = go (isIdentity h g t) refl
     where
+      some : 1 ≤ m * t
+      some = let l : m * 1 ≤ m * t = mul-le-mul-left m (p .good .times) in omega (arith, p .good .some)
+
       go : (b : Bool) → isIdentity h g t ≡ b → Stored (reckon (Map k h g m t) c)
-      go true d = simp d (segments-stored (c .segments) (s .good) (s .order) (s .few))
+      go true d = simp d (segments-stored (c .segments) (s .good) (s .order) (s .few) (s .unshared))
       go false d =
           let slot = p .slot d in
           simp d (segments-stored _ (place-good _ (c .segments) (p .good) (s .good)) (place-order _ (c .segments) (s .order))
-          (omega (arith, length-place (segment h g m t) (c .segments))))
+          (omega (arith, length-place (segment h g m t) (c .segments)))
+          (place-unshared (segment h g m t) (c .segments) (overlaps-untouched g (m * t) (c .segments) some (p .apart)) (s .unshared)))
 
   unmap-stored : (k : ℕ) (h : HostAddr) (m : ℕ) → UnmapPassed c h m → Stored (reckon (Unmap k h m) c)
   unfolding reckon unmapped hostUp
   unmap-stored k h m p =
       segments-stored _ (hostCut-good h (hostUp h m) (c .segments) (omega arith) (s .good)) (p .order)
       (go (any (hostInside h (hostUp h m)) (c .segments)) refl)
+      (within-unshared (c .segments) _ (hostCut-within h (hostUp h m) (c .segments) (omega arith) (s .good)) (s .unshared))
     where
       go : (b : Bool) → any (hostInside h (hostUp h m)) (c .segments) ≡ b → length (hostCut h (hostUp h m) (c .segments)) ≤ 64
       go true d = omega (arith, p .slot d, simp d at (length-hostCut h (hostUp h m) (c .segments)))
@@ -202,6 +212,7 @@ module _ (n : ℕ) (c : Compartment) (s : Stored c) where
   cut-stored g m z p =
       segments-stored _ (spanCut-good g (guestUp g m) (c .segments) (omega arith) (p .single) (s .good)) (simp z at (p .order))
       (go (any (spanInside g (guestUp g m)) (c .segments)) refl)
+      (within-unshared (c .segments) _ (spanCut-within g (guestUp g m) (c .segments) (omega arith) (p .single) (s .good)) (s .unshared))
     where
       more : length (spanCut g (guestUp g m) (c .segments)) ≤ length (c .segments) + bit (any (spanInside g (guestUp g m)) (c .segments))
       more = length-spanCut g (guestUp g m) (c .segments) (omega arith) (p .alone)
@@ -221,7 +232,7 @@ module _ (n : ℕ) (c : Compartment) (s : Stored c) where
   unmapGpa-stored k g m h = go (m =? 0) refl (length (c .segments) =? 0) refl
     where
       same : Stored (withSegments c (c .segments))
-      same = segments-stored (c .segments) (s .good) (s .order) (s .few)
+      same = segments-stored (c .segments) (s .good) (s .order) (s .few) (s .unshared)
 
       go : (b : Bool) → (m =? 0) ≡ b → (t : Bool) → (length (c .segments) =? 0) ≡ t → Stored (reckon (UnmapGpa k g m) c)
       go true d t f = simp d same
@@ -244,7 +255,7 @@ call-stored n c (Mappings k) s h = s
 
 empty-stored : Stored empty
 unfolding empty inOrder
-empty-stored = record { good = tt; order = refl; few = omega arith; blank = λ x h. refl; counted = λ x. nothing-counted }
+empty-stored = record { good = tt; order = refl; few = omega arith; unshared = λ y l. omega arith; blank = λ x h. refl; counted = λ x. nothing-counted }
 
 -- Every list of calls
 
@@ -254,6 +265,10 @@ stored-next = always-next Stored call-stored
 
 pub stored : (calls : List Call) (k : ℕ) → Stored (compartment (after calls) k)
 stored = always Stored call-stored empty-stored
+
+-- a stored segment with repeat 1 shares no guest address with another
+pub unshared : (calls : List Call) (k : ℕ) → Unshared (compartment (after calls) k .segments)
+unshared calls k = stored calls k .unshared
 
 pub start-stored : (k : ℕ) → Stored (compartment start k)
 start-stored k = rw (start-empty k) empty-stored

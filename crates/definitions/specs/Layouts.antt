@@ -1,4 +1,5 @@
--- Document 01, "Marked layouts (*)": the starred ones, as rows of one table.
+-- Document 01, "Marked layouts (*)": the starred ones, as rows of one table, worked out anew where document 02, order 1,
+-- asks for it.
 use Prim.Native.Nat.{ℕ, zero, suc, _+_}
 use mathlib.Core.Bool.{Bool, true, false, _&&_}
 use mathlib.Core.List.{List, [], _∷_}
@@ -99,7 +100,9 @@ stored = map 100 1000 10 1 ∷ []
 unfoldable pub crowdedRow : Row
 crowdedRow = row (singleAdds 0 1024) (add 0 2 1) 5 0 (singleRows 0 1024) [] (singleMappings 0 1024)
 
--- the other starred layouts; then the example of the script, and a segment inside another in host addresses
+-- the other starred layouts, and after the two that order 1 changed: an empty range inside a stored span, a span found behind
+-- a segment of a higher guest address, an identity map, which is asked 11 too, and spans that only touch; at the end the
+-- example of the script, and a segment inside another in host addresses
 unfoldable pub smallRows : List Row
 smallRows =
     row (add 0 10 1 ∷ []) (add 5 15 3) 0 1 ((0, 5, 1) ∷ (5, 10, 3) ∷ (10, 15, 3) ∷ []) []
@@ -109,8 +112,13 @@ smallRows =
     ∷ row (add 0 10 17 ∷ add 0 10 1 ∷ []) (remove 0 10 17) 0 0 ((0, 10, 17) ∷ []) [] ((0, 0, 10, 1, 17) ∷ [])
     ∷ row two (remove 0 25 1) 0 1 ((25, 30, 1) ∷ []) [] ((25, 25, 5, 1, 1) ∷ [])
     ∷ row two (remove 12 25 1) 7 0 ((0, 10, 1) ∷ (20, 30, 1) ∷ []) [] ((0, 0, 10, 1, 1) ∷ (20, 20, 10, 1, 1) ∷ [])
-    ∷ row stored (map 500 995 20 1) 0 0 [] ((100, 1000, 10, 1) ∷ (500, 995, 20, 1) ∷ []) []
-    ∷ row stored (Overlaps 0 (guest 1010) 0) 0 1 [] ((100, 1000, 10, 1) ∷ []) []
+    ∷ row stored (map 500 995 20 1) 11 0 [] ((100, 1000, 10, 1) ∷ []) []
+    ∷ row stored (Overlaps 0 (guest 1010) 0) 0 0 [] ((100, 1000, 10, 1) ∷ []) []
+    ∷ row stored (Overlaps 0 (guest 1005) 0) 0 0 [] ((100, 1000, 10, 1) ∷ []) []
+    ∷ row (map 50 5000 10 1 ∷ stored) (map 300 1005 1 1) 11 0 [] ((50, 5000, 10, 1) ∷ (100, 1000, 10, 1) ∷ []) []
+    ∷ row stored (map 1005 1005 1 1) 11 0 [] ((100, 1000, 10, 1) ∷ []) []
+    ∷ row (map 200 990 5 2 ∷ stored) (map 300 1010 5 1) 0 0 []
+    ((100, 1000, 10, 1) ∷ (200, 990, 5, 2) ∷ (300, 1010, 5, 1) ∷ []) []
     ∷ row stored (unmap 103 2) 0 0 [] ((100, 1000, 3, 1) ∷ (105, 1005, 5, 1) ∷ []) []
     ∷ row stored (unmap 95 10) 13 0 [] ((100, 1000, 10, 1) ∷ []) []
     ∷ row stored (unmapGpa 1000 4) 0 0 [] ((104, 1004, 6, 1) ∷ []) []

@@ -1,8 +1,8 @@
 -- Document 01, "Segments": the list, where a new one goes, what overlaps, and what a map and the two unmaps leave.
-use Prim.Native.Nat.{ℕ, _+_, _-_, _*_}
-use mathlib.Core.Bool.{Bool, true, false, not, _&&_, _||_}
+use Prim.Native.Nat.{ℕ, _-_, _*_}
+use mathlib.Core.Bool.{Bool, true, not, _&&_}
 use mathlib.Core.List.{List, [], _∷_}
-use Rattle.definitions.specs.Tests.{_<?_, _≤?_, _=?_, if_then_else_, inside, hostUp, guestUp, all, each}
+use Rattle.definitions.specs.Tests.{_<?_, _≤?_, _=?_, if_then_else_, inside, hostUp, guestUp, all, any, each}
 use Rattle.definitions.specs.declared.addr.HostAddr.{HostAddr}
 use Rattle.definitions.specs.declared.addr.GuestAddr.{GuestAddr}
 use Rattle.definitions.specs.declared.remapper.Segment.{Segment}
@@ -31,18 +31,14 @@ unfoldable pub place : Segment → List Segment → List Segment
 place s [] = s ∷ []
 place s (t ∷ ts) = if t .hpa .0 ≤? s .hpa .0 then t ∷ place s ts else s ∷ t ∷ ts
 
--- `overlaps` walks the list with end = start + size. A segment hits if gpa ≤ start < span end, or gpa < end ≤ span end.
--- After a miss with gpa > end the walk stops with no.
-unfoldable pub hits : GuestAddr → GuestAddr → Segment → Bool
-hits a e s =
-    ((s .gpa .0 ≤? a .0) && (a .0 <? spanEnd s .0)) || ((s .gpa .0 <? e .0) && (e .0 ≤? spanEnd s .0))
+-- A segment is touched if the range [a, e) and its span share an address.
+unfoldable pub touched : GuestAddr → GuestAddr → Segment → Bool
+touched a e s = (a .0 <? spanEnd s .0) && (s .gpa .0 <? e .0)
 
-unfoldable pub hitsAny : GuestAddr → GuestAddr → List Segment → Bool
-hitsAny a e [] = false
-hitsAny a e (s ∷ ss) = if hits a e s then true else if e .0 <? s .gpa .0 then false else hitsAny a e ss
-
+-- `overlaps(start, size)`: does the range share an address with a stored span, in any list order? An empty range overlaps
+-- nothing. (Document 02, order 1.)
 unfoldable pub overlaps : GuestAddr → ℕ → List Segment → Bool
-overlaps g n ss = hitsAny g (guestUp g n) ss
+overlaps g n ss = not (n =? 0) && any (touched g (guestUp g n)) ss
 
 -- A map with repeat 1 and gpa = hpa stores nothing.
 unfoldable pub isIdentity : HostAddr → GuestAddr → ℕ → Bool
@@ -80,11 +76,7 @@ hostCut a e (s ∷ ss) =
 unfoldable pub unmapped : HostAddr → ℕ → List Segment → List Segment
 unmapped h n ss = hostCut h (hostUp h n) ss
 
--- `unmap_gpa_range`, of [a, e): the same on guest spans, but every segment is visited. A segment is touched if the range
--- and its span share an address.
-unfoldable pub touched : GuestAddr → GuestAddr → Segment → Bool
-touched a e s = (a .0 <? spanEnd s .0) && (s .gpa .0 <? e .0)
-
+-- `unmap_gpa_range`, of [a, e): the same on guest spans, but every segment is visited.
 unfoldable pub spanWhole : GuestAddr → GuestAddr → Segment → Bool
 spanWhole a e s = (a .0 ≤? s .gpa .0) && (spanEnd s .0 ≤? e .0)
 

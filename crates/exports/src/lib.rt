@@ -152,7 +152,7 @@ pub extern "C" fn segments_page(
     coded(answer)
 }
 
-// Whether a guest range overlaps a segment after a script, as the Rust asks it.
+// Whether a guest range shares an address with the span of a stored segment after a script.
 #[no_mangle]
 pub extern "C" fn overlaps_after(script: &[u8], compartment: u64, start: u64, size: u64) -> u64
     ensures { λ r. ⌜ r ≡ codedAs (answer (leftBy (now (script .entry))) (Overlaps compartment (guest start) size)) ⌝ }

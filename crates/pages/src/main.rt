@@ -139,7 +139,7 @@ fn read_compartments(script: &[u8]) {
 // Whether guest ranges of growing size overlap a segment of compartment 0.
 fn ask_overlaps(script: &[u8]) {
     let mut size: u64 = 0;
-    while size < 12 {
+    while size < 20 {
         show(exports::overlaps_after(script, 0, 995, size));
         end();
         size += 1;

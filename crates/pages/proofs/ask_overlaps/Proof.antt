@@ -4,10 +4,10 @@ use Rattle.pages.proofs.ask_overlaps.Statement.{statement}
 use Rattle.pages.proofs.ask_overlaps.Tie as tie
 
 abbrev Inv-loop : tie.InvT-loop
-Inv-loop script size₀ size = size ≤ 12
+Inv-loop script size₀ size = size ≤ 20
 
 abbrev μ-loop : tie.MeasureT-loop
-μ-loop script size₀ size = 12 - size
+μ-loop script size₀ size = 20 - size
 
 loop-holds : tie.Need-loop-holds Inv-loop μ-loop
 loop-holds c = search needs

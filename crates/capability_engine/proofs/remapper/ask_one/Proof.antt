@@ -1,4 +1,5 @@
 use mathlib.Core.Path.{subst}
+use native.Mathlib.Omega.{arith}
 use Rattle.capability_engine.specs.RemapAsking.{askStep, inRange}
 use borrow.Author.Needs.{needs}
 use Rattle.capability_engine.proofs.remapper.ask_one.Statement.{statement}
@@ -14,7 +15,7 @@ enum-known-span-2 : tie.Need-enum-known-span-2
 enum-known-span-2 c = search needs
 
 ask-guest-requires : tie.Need-ask-guest-requires
-ask-guest-requires c κs = (c .before .before .before .pre .0, subst inRange (c .before .span2 .given .1) (c .before .before .before .pre .1))
+ask-guest-requires c κs = let l = subst inRange (c .before .span2 .given .1) (c .before .before .before .pre .1) in (c .before .before .before .pre .0, omega arith)
 
 returns : tie.Need-returns
 unfolding askStep

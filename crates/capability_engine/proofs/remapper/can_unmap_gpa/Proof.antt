@@ -1,4 +1,4 @@
-use Rattle.capability_engine.proofs.RemapGuests.{span-repeats, span-others, span-full, span-fits}
+use Rattle.capability_engine.proofs.RemapGuests.{span-repeats, span-full, span-fits}
 use borrow.Author.Needs.{needs}
 use Rattle.capability_engine.proofs.remapper.can_unmap_gpa.Statement.{statement}
 use Rattle.capability_engine.proofs.remapper.can_unmap_gpa.Tie as tie
@@ -10,17 +10,10 @@ and-requires : tie.Need-and-requires
 and-requires c κs = search needs
 
 returns-2 : tie.Need-returns-2
-returns-2 c = span-others _ _ (c .before .before .if1 .left) _ (c .before .and .ensures) (c .if2 .taken)
-
-and-requires-2 : tie.Need-and-requires-2
-and-requires-2 c κs = search needs
+returns-2 c = span-full _ _ (c .before .before .if1 .left) _ (c .before .and .ensures) (c .if2 .taken)
 
 returns-3 : tie.Need-returns-3
-returns-3 c = span-full _ _ (c .before .before .before .before .if1 .left) _ (c .before .before .before .and .ensures) (c .before .before .if2 .left) _ (c .before .and2 .ensures) (c .if3 .taken)
-
-returns-4 : tie.Need-returns-4
-returns-4 c = span-fits _ _ (c .before .before .before .before .if1 .left) _ (c .before .before .before .and .ensures) (c .before .before .if2 .left) _ (c .before .and2 .ensures) (c .if3 .left)
+returns-3 c = span-fits _ _ (c .before .before .if1 .left) _ (c .before .and .ensures) (c .if2 .left)
 
 pub can-unmap-gpa-spec : {M : Type 1} → statement M
-can-unmap-gpa-spec =
-    tie.close (tie.spec returns and-requires returns-2 and-requires-2 returns-3 returns-4)
+can-unmap-gpa-spec = tie.close (tie.spec returns and-requires returns-2 returns-3)

@@ -17,7 +17,7 @@ and-requires-2 c κs = search needs
 
 returns : tie.Need-returns
 unfolding repeats
-returns c = cc
+returns c = rw (c .and2 .ensures, c .before .and .ensures, c .before .before .is-touched .ensures, c .before .before .before .is-span-whole .ensures)
 
 pub is-repeated-spec : {M : Type 1} → statement M
 is-repeated-spec =

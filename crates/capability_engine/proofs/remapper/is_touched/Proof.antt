@@ -11,7 +11,7 @@ and-requires c κs = search needs
 
 returns : tie.Need-returns
 unfolding touched
-returns c = cc
+returns c = rw (c .and .ensures, c .before .before .before .span-end .ensures)
 
 pub is-touched-spec : {M : Type 1} → statement M
 is-touched-spec = tie.close (tie.spec span-end-requires and-requires returns)

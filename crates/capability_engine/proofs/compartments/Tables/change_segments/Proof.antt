@@ -1,6 +1,6 @@
 use native.Mathlib.Omega.{arith}
 use mathlib.Core.Path.{sym}
-use Rattle.capability_engine.proofs.CompartmentFacts.{held}
+use Rattle.capability_engine.proofs.CompartmentFacts.{held, sound}
 use Rattle.capability_engine.proofs.CompartmentReads.{past-answers}
 use Rattle.capability_engine.proofs.CompartmentCalls.{ready, settles, segments-answers}
 use borrow.Author.Needs.{needs}
@@ -25,7 +25,7 @@ on-segments-requires : tie.Need-on-segments-requires
 on-segments-requires c κs = (_, held _ _ _ _ _ _ (c .before .before .before .before .before .before .before .before .pre .0 .grown) _ (omega (arith, c .before .before .if1 .left)) _)
 
 apply-requires : tie.Need-apply-requires
-apply-requires c κs = ready _ _ (c .on-segments .result) (c .on-segments .ensures) (c .before .before .before .before .before .before .before .before .before .pre .1) (_, held _ _ _ _ _ _ (c .before .before .before .before .before .before .before .before .before .pre .0 .grown) _ (omega (arith, c .before .before .before .if1 .left)) _)
+apply-requires c κs = ready _ _ (c .on-segments .result) (c .on-segments .ensures) (c .before .before .before .before .before .before .before .before .before .pre .1) (_, sound _ _ _ _ _ _ (c .before .before .before .before .before .before .before .before .before .pre .0 .grown) _ (omega (arith, c .before .before .before .if1 .left)) _)
 
 mul-remappers : tie.Need-mul-remappers
 mul-remappers c = search needs

@@ -7,7 +7,7 @@ use mathlib.Core.Path.{sym, _∙_}
 use lib.ListN.{length}
 use Rattle.definitions.specs.declared.call.Call.{Call}
 use Rattle.capability_engine.specs.CompartmentGrown.{Grown}
-use Rattle.capability_engine.proofs.ScriptGoing.{toDo, scriptAt, Going, going-start, shown, going-room, going-print, going-full, going-tell, going-part, going-owed, regions-sound, regions-tracked, going-regions, segments-sound, segments-held, going-segments, going-same, less-heard, less-told, less-full, less-print, going-end, sized}
+use Rattle.capability_engine.proofs.ScriptGoing.{toDo, scriptAt, Going, going-start, shown, going-room, going-print, going-full, going-tell, going-part, going-owed, regions-sound, regions-tracked, going-regions, segments-sound, segments-held, segments-kept, going-segments, going-same, less-heard, less-told, less-full, less-print, going-end, sized}
 use Rattle.capability_engine.proofs.CompartmentCalls.{keeps, puts, cuts, ready-put, ready-cut, refused-same}
 use Rattle.capability_engine.proofs.compartments.Tables.feed.Statement.{statement}
 use Rattle.capability_engine.proofs.compartments.Tables.feed.Tie as tie
@@ -133,7 +133,7 @@ enum-known-change-2 : tie.Need-enum-known-change-2 Inv-loop μ-loop
 enum-known-change-2 c = search needs
 
 insert-segment-requires : tie.Need-insert-segment-requires Inv-loop μ-loop
-insert-segment-requires c κs = ready-put _ _ (c .before .before .before .on-segments .result) (c .before .before .before .on-segments .ensures) (segments-sound _ _ _ _ _ _ _ _ _ _ _ _ (c .before .before .before .before .before .before .before .before .before .before .before .before .before .before .before .before .loop .inv (c .before .before .before .before .before .before .before .before .before .before .before .before .before .before .before .before .before .before .before .before .before .before .before .before .before .before .before .before .pre .calls) (c .before .before .before .before .before .before .before .before .before .before .before .before .before .before .before .before .before .before .before .before .before .before .before .before .before .before .before .before .pre .grown)) (c .before .before .before .before .before .before .before .before .before .before .before .before .before .if2 .left) (c .before .before .before .before .before .before .before .before .before .before .before .before .before .before .before .goes-on .ensures .on (c .before .before .before .before .before .before .before .before .before .before .before .before .before .before .if1 .taken) .0) _ _ (c .before .before .before .before .before .before .before .before .before .hear .ensures) _ _ (c .before .before .before .before .before .before .task3 .given .1) .2) (segments-held _ _ _ _ _ _ _ _ _ _ _ _ (c .before .before .before .before .before .before .before .before .before .before .before .before .before .before .before .before .loop .inv (c .before .before .before .before .before .before .before .before .before .before .before .before .before .before .before .before .before .before .before .before .before .before .before .before .before .before .before .before .pre .calls) (c .before .before .before .before .before .before .before .before .before .before .before .before .before .before .before .before .before .before .before .before .before .before .before .before .before .before .before .before .pre .grown)) (c .before .before .before .before .before .before .before .before .before .before .before .before .before .if2 .left) (c .before .before .before .before .before .before .before .before .before .before .before .before .before .before .before .goes-on .ensures .on (c .before .before .before .before .before .before .before .before .before .before .before .before .before .before .if1 .taken) .0) _ _ (c .before .before .before .before .before .before .before .before .before .hear .ensures) _ _ (c .before .before .before .before .before .before .task3 .given .1) _) _ (c .before .change2 .given .1)
+insert-segment-requires c κs = ready-put _ _ (c .before .before .before .on-segments .result) (c .before .before .before .on-segments .ensures) (segments-sound _ _ _ _ _ _ _ _ _ _ _ _ (c .before .before .before .before .before .before .before .before .before .before .before .before .before .before .before .before .loop .inv (c .before .before .before .before .before .before .before .before .before .before .before .before .before .before .before .before .before .before .before .before .before .before .before .before .before .before .before .before .pre .calls) (c .before .before .before .before .before .before .before .before .before .before .before .before .before .before .before .before .before .before .before .before .before .before .before .before .before .before .before .before .pre .grown)) (c .before .before .before .before .before .before .before .before .before .before .before .before .before .if2 .left) (c .before .before .before .before .before .before .before .before .before .before .before .before .before .before .before .goes-on .ensures .on (c .before .before .before .before .before .before .before .before .before .before .before .before .before .before .if1 .taken) .0) _ _ (c .before .before .before .before .before .before .before .before .before .hear .ensures) _ _ (c .before .before .before .before .before .before .task3 .given .1) .2) (segments-kept _ _ _ _ _ _ _ _ _ _ _ _ (c .before .before .before .before .before .before .before .before .before .before .before .before .before .before .before .before .loop .inv (c .before .before .before .before .before .before .before .before .before .before .before .before .before .before .before .before .before .before .before .before .before .before .before .before .before .before .before .before .pre .calls) (c .before .before .before .before .before .before .before .before .before .before .before .before .before .before .before .before .before .before .before .before .before .before .before .before .before .before .before .before .pre .grown)) (c .before .before .before .before .before .before .before .before .before .before .before .before .before .if2 .left) (c .before .before .before .before .before .before .before .before .before .before .before .before .before .before .before .goes-on .ensures .on (c .before .before .before .before .before .before .before .before .before .before .before .before .before .before .if1 .taken) .0) _ _ (c .before .before .before .before .before .before .before .before .before .hear .ensures) _ _ (c .before .before .before .before .before .before .task3 .given .1) _) _ (c .before .change2 .given .1)
 
 tell-requires-4 : tie.Need-tell-requires-4 Inv-loop μ-loop
 tell-requires-4 c κs = ((room _ _ 25 _ (c .before .before .before .before .before .before .before .before .before .before .before .before .before .before .has-room .ensures) (c .before .before .before .before .before .before .before .before .before .before .before .before .before .if3 .left)), (c .before .before .before .before .before .before .before .before .before .before .before .before .before .before .before .before .before .before .loop .inv (c .before .before .before .before .before .before .before .before .before .before .before .before .before .before .before .before .before .before .before .before .before .before .before .before .before .before .before .before .before .before .pre .calls) (c .before .before .before .before .before .before .before .before .before .before .before .before .before .before .before .before .before .before .before .before .before .before .before .before .before .before .before .before .before .before .pre .grown)) .adds .counted)
@@ -166,7 +166,7 @@ enum-known-change-3 : tie.Need-enum-known-change-3 Inv-loop μ-loop
 enum-known-change-3 c = search needs
 
 cut-requires : tie.Need-cut-requires Inv-loop μ-loop
-cut-requires c κs = ready-cut _ _ (c .before .before .before .on-segments .result) (c .before .before .before .on-segments .ensures) (segments-sound _ _ _ _ _ _ _ _ _ _ _ _ (c .before .before .before .before .before .before .before .before .before .before .before .before .before .before .before .before .loop .inv (c .before .before .before .before .before .before .before .before .before .before .before .before .before .before .before .before .before .before .before .before .before .before .before .before .before .before .before .before .pre .calls) (c .before .before .before .before .before .before .before .before .before .before .before .before .before .before .before .before .before .before .before .before .before .before .before .before .before .before .before .before .pre .grown)) (c .before .before .before .before .before .before .before .before .before .before .before .before .before .if2 .left) (c .before .before .before .before .before .before .before .before .before .before .before .before .before .before .before .goes-on .ensures .on (c .before .before .before .before .before .before .before .before .before .before .before .before .before .before .if1 .taken) .0) _ _ (c .before .before .before .before .before .before .before .before .before .hear .ensures) _ _ (c .before .before .before .before .before .before .task3 .given .1) .2) (segments-held _ _ _ _ _ _ _ _ _ _ _ _ (c .before .before .before .before .before .before .before .before .before .before .before .before .before .before .before .before .loop .inv (c .before .before .before .before .before .before .before .before .before .before .before .before .before .before .before .before .before .before .before .before .before .before .before .before .before .before .before .before .pre .calls) (c .before .before .before .before .before .before .before .before .before .before .before .before .before .before .before .before .before .before .before .before .before .before .before .before .before .before .before .before .pre .grown)) (c .before .before .before .before .before .before .before .before .before .before .before .before .before .if2 .left) (c .before .before .before .before .before .before .before .before .before .before .before .before .before .before .before .goes-on .ensures .on (c .before .before .before .before .before .before .before .before .before .before .before .before .before .before .if1 .taken) .0) _ _ (c .before .before .before .before .before .before .before .before .before .hear .ensures) _ _ (c .before .before .before .before .before .before .task3 .given .1) _) _ (c .before .change3 .given .1)
+cut-requires c κs = ready-cut _ _ (c .before .before .before .on-segments .result) (c .before .before .before .on-segments .ensures) (segments-sound _ _ _ _ _ _ _ _ _ _ _ _ (c .before .before .before .before .before .before .before .before .before .before .before .before .before .before .before .before .loop .inv (c .before .before .before .before .before .before .before .before .before .before .before .before .before .before .before .before .before .before .before .before .before .before .before .before .before .before .before .before .pre .calls) (c .before .before .before .before .before .before .before .before .before .before .before .before .before .before .before .before .before .before .before .before .before .before .before .before .before .before .before .before .pre .grown)) (c .before .before .before .before .before .before .before .before .before .before .before .before .before .if2 .left) (c .before .before .before .before .before .before .before .before .before .before .before .before .before .before .before .goes-on .ensures .on (c .before .before .before .before .before .before .before .before .before .before .before .before .before .before .if1 .taken) .0) _ _ (c .before .before .before .before .before .before .before .before .before .hear .ensures) _ _ (c .before .before .before .before .before .before .task3 .given .1) .2) (segments-kept _ _ _ _ _ _ _ _ _ _ _ _ (c .before .before .before .before .before .before .before .before .before .before .before .before .before .before .before .before .loop .inv (c .before .before .before .before .before .before .before .before .before .before .before .before .before .before .before .before .before .before .before .before .before .before .before .before .before .before .before .before .pre .calls) (c .before .before .before .before .before .before .before .before .before .before .before .before .before .before .before .before .before .before .before .before .before .before .before .before .before .before .before .before .pre .grown)) (c .before .before .before .before .before .before .before .before .before .before .before .before .before .if2 .left) (c .before .before .before .before .before .before .before .before .before .before .before .before .before .before .before .goes-on .ensures .on (c .before .before .before .before .before .before .before .before .before .before .before .before .before .before .if1 .taken) .0) _ _ (c .before .before .before .before .before .before .before .before .before .hear .ensures) _ _ (c .before .before .before .before .before .before .task3 .given .1) _) _ (c .before .change3 .given .1)
 
 tell-requires-5 : tie.Need-tell-requires-5 Inv-loop μ-loop
 tell-requires-5 c κs = ((room _ _ 25 _ (c .before .before .before .before .before .before .before .before .before .before .before .before .before .before .has-room .ensures) (c .before .before .before .before .before .before .before .before .before .before .before .before .before .if3 .left)), (c .before .before .before .before .before .before .before .before .before .before .before .before .before .before .before .before .before .before .loop .inv (c .before .before .before .before .before .before .before .before .before .before .before .before .before .before .before .before .before .before .before .before .before .before .before .before .before .before .before .before .before .before .pre .calls) (c .before .before .before .before .before .before .before .before .before .before .before .before .before .before .before .before .before .before .before .before .before .before .before .before .before .before .before .before .before .before .pre .grown)) .adds .counted)

@@ -14,7 +14,7 @@ enum-known-change-2 : tie.Need-enum-known-change-2
 enum-known-change-2 c = search needs
 
 cut-requires : tie.Need-cut-requires
-cut-requires c κs = let w = as-cut _ _ _ _ (c .before .before .before .pre .2) _ (c .before .change2 .given .1) in (w .range, (w .before, w .held))
+cut-requires c κs = let w = as-cut _ _ _ _ (c .before .before .before .pre .2) _ (c .before .change2 .given .1) in (w .range, (w .before, w .sound))
 
 enum-known-change-3 : tie.Need-enum-known-change-3
 enum-known-change-3 c = search needs

@@ -2,7 +2,7 @@ use native.Mathlib.Omega.{arith}
 use mathlib.Core.Path.{sym, _∙_, subst}
 use mathlib.Core.List.{List}
 use Rattle.definitions.specs.declared.remapper.Segment.{Segment}
-use Rattle.capability_engine.specs.RemapHeld.{Holds, ahead}
+use Rattle.capability_engine.specs.RemapHeld.{Holds, Sound, ahead}
 use Rattle.capability_engine.proofs.RemapWalks.{some-open, some-less, some-next, Trims, trims-start, trims-cut, trims-next, trims-less, trims-end, trims-gone, trims-kept, trims-two, trims-room}
 use Rattle.capability_engine.proofs.RemapParts.{GoodLeft, left-good}
 use Rattle.capability_engine.proofs.RemapPlaces.{zip-put, zip-remove}
@@ -18,7 +18,7 @@ abbrev μ-loop : tie.MeasureT-loop
 μ-loop span out f₀ asking₀ f asking = ahead (out .links) asking
 
 abbrev Inv-loop2 : tie.InvT-loop2
-Inv-loop2 span out₀ f asking prev₀ at₀ out prev at = (ss : List Segment) → Holds out₀ ss → Trims out span prev at ss
+Inv-loop2 span out₀ f asking prev₀ at₀ out prev at = (ss : List Segment) → Sound out₀ ss → Trims out span prev at ss
 
 abbrev μ-loop2 : tie.MeasureT-loop2
 μ-loop2 span out₀ f asking prev₀ at₀ out prev at = ahead (out .links) at
@@ -36,16 +36,16 @@ element-copy-out-s : tie.Need-element-copy-out-s Inv-loop μ-loop Inv-loop2 μ-l
 element-copy-out-s c = search needs
 
 find-one-requires : tie.Need-find-one-requires Inv-loop μ-loop Inv-loop2 μ-loop2
-find-one-requires c κs = let w = (c .before .before .loop .inv (c .before .before .before .before .pre .1 .0) (c .before .before .before .before .pre .1 .1) .asks) in (some-open _ _ (w .0) (w .1) (c .before .loop-test .taken) .good, c .before .before .before .before .pre .0)
+find-one-requires c κs = let w = (c .before .before .loop .inv (c .before .before .before .before .pre .1 .0) (c .before .before .before .before .pre .1 .1 .held) .asks) in (some-open _ _ (w .0) (w .1) (c .before .loop-test .taken) .good, c .before .before .before .before .pre .0)
 
 element-copy-out-asking : tie.Need-element-copy-out-asking Inv-loop μ-loop Inv-loop2 μ-loop2
 element-copy-out-asking c = search needs
 
 cast-asking : tie.Need-cast-asking Inv-loop μ-loop Inv-loop2 μ-loop2
-cast-asking c = let w = c .before .before .before .before .loop .inv (c .before .before .before .before .before .before .pre .1 .0) (c .before .before .before .before .before .before .pre .1 .1) .asks in record { fits = omega (arith, some-next _ _ (w .0) (w .1) (c .before .before .before .loop-test .taken)) }
+cast-asking c = let w = c .before .before .before .before .loop .inv (c .before .before .before .before .before .before .pre .1 .0) (c .before .before .before .before .before .before .pre .1 .1 .held) .asks in record { fits = omega (arith, some-next _ _ (w .0) (w .1) (c .before .before .before .loop-test .taken)) }
 
 loop-less : tie.Need-loop-less Inv-loop μ-loop Inv-loop2 μ-loop2
-loop-less c = let w = (c .before .before .before .before .loop .inv (c .before .before .before .before .before .before .pre .1 .0) (c .before .before .before .before .before .before .pre .1 .1) .asks) in some-less _ _ (w .0) (w .1) (c .before .before .before .loop-test .taken)
+loop-less c = let w = (c .before .before .before .before .loop .inv (c .before .before .before .before .before .before .pre .1 .0) (c .before .before .before .before .before .before .pre .1 .1 .held) .asks) in some-less _ _ (w .0) (w .1) (c .before .before .before .loop-test .taken)
 
 loop-again : tie.Need-loop-again Inv-loop μ-loop Inv-loop2 μ-loop2
 loop-again c = λ ss h. finds-on _ _ _ _ ss (c .before .before .before .before .loop .inv ss h) (c .before .before .before .loop-test .taken) _ (c .before .find-one .ensures)
@@ -60,10 +60,10 @@ enum-told-2 : tie.Need-enum-told-2 Inv-loop μ-loop Inv-loop2 μ-loop2
 enum-told-2 c = search needs
 
 returns : tie.Need-returns Inv-loop μ-loop Inv-loop2 μ-loop2
-returns c = λ ss h. cut-refused _ _ (c .before .before .before .before .before .before .before .pre .0) ss h _ (finds-end _ _ _ _ ss (c .before .before .before .before .before .loop .inv ss h) (c .before .before .before .before .loop-test .left)) _ (c .before .before .can-cut .ensures) _ (c .enum-told2 .given .1)
+returns c = λ ss h. cut-refused _ _ (c .before .before .before .before .before .before .before .pre .0) ss h _ (finds-end _ _ _ _ ss (c .before .before .before .before .before .loop .inv ss (h .held)) (c .before .before .before .before .loop-test .left)) _ (c .before .before .can-cut .ensures) _ (c .enum-told2 .given .1)
 
 loop2-holds : tie.Need-loop2-holds Inv-loop μ-loop Inv-loop2 μ-loop2
-loop2-holds c = λ ss h. trims-start _ _ ss h (cut-trims _ _ (c .before .before .before .before .before .before .before .pre .0) ss h _ (finds-end _ _ _ _ ss (c .before .before .before .before .before .loop .inv ss h) (c .before .before .before .before .loop-test .left)) _ (c .before .before .can-cut .ensures) _ (c .enum-told .given .1))
+loop2-holds c = λ ss h. trims-start _ _ ss (h .held) (cut-trims _ _ (c .before .before .before .before .before .before .before .pre .0) ss h _ (finds-end _ _ _ _ ss (c .before .before .before .before .before .loop .inv ss (h .held)) (c .before .before .before .before .loop-test .left)) _ (c .before .before .can-cut .ensures) _ (c .enum-told .given .1))
 
 mul-s-2 : tie.Need-mul-s-2 Inv-loop μ-loop Inv-loop2 μ-loop2
 mul-s-2 c = search needs
@@ -123,19 +123,19 @@ link-in-requires : tie.Need-link-in-requires Inv-loop μ-loop Inv-loop2 μ-loop2
 link-in-requires c κs = let w = c .before .before .before .before .before .before .before .loop2 .inv (c .before .before .before .before .before .before .before .before .before .before .before .before .before .before .before .pre .1 .0) (c .before .before .before .before .before .before .before .before .before .before .before .before .before .before .before .pre .1 .1) in let d = trims-cut _ _ _ _ _ w (c .before .before .before .before .before .before .loop2-test .taken) in let e = sym (c .before .before .before .leave .ensures) ∙ c .before .l2 .given .1 in let g = subst GoodLeft e (left-good _ _ (c .before .before .before .before .before .before .before .before .before .before .before .before .before .before .before .pre .0) (d .good) (d .ok)) in (_, d .more, (zip-put _ _ _ (w .done) (d .more) _ (c .before .l2 .given .0 .0) (d .zip) (g .0)), (trims-room _ _ _ _ _ w (c .before .l2 .given .0 .0) _ (c .before .before .before .before .before .before .loop2-test .taken) e))
 
 returns-2 : tie.Need-returns-2 Inv-loop μ-loop Inv-loop2 μ-loop2
-returns-2 c = λ ss h. let w = c .before .before .before .before .before .before .before .before .loop2 .inv ss h in let d = trims-cut _ _ _ _ _ w (c .before .before .before .before .before .before .before .loop2-test .taken) in let e = sym (c .before .before .before .before .leave .ensures) ∙ c .before .before .l2 .given .1 in let g = subst GoodLeft e (left-good _ _ (c .before .before .before .before .before .before .before .before .before .before .before .before .before .before .before .before .pre .0) (d .good) (d .ok)) in cut-two _ _ (c .before .before .before .before .before .before .before .before .before .before .before .before .before .before .before .before .pre .0) ss h _ (finds-end _ _ _ _ ss (c .before .before .before .before .before .before .before .before .before .before .before .before .before .before .loop .inv ss h) (c .before .before .before .before .before .before .before .before .before .before .before .before .before .loop-test .left)) _ (c .before .before .before .before .before .before .before .before .before .before .before .can-cut .ensures) _ (c .before .before .before .before .before .before .before .before .before .enum-told .given .1) _ (c .before .before .l2 .given .0 .0) _ e _ (trims-two _ _ _ _ _ w _ (c .before .before .l2 .given .0 .0) _ (c .before .before .before .before .before .before .before .loop2-test .taken) e (c .link-in .ensures _ (d .more) (zip-put _ _ _ (w .done) (d .more) _ (c .before .before .l2 .given .0 .0) (d .zip) (g .0)) (trims-room _ _ _ _ _ w (c .before .before .l2 .given .0 .0) _ (c .before .before .before .before .before .before .before .loop2-test .taken) e) (g .1)))
+returns-2 c = λ ss h. let w = c .before .before .before .before .before .before .before .before .loop2 .inv ss h in let d = trims-cut _ _ _ _ _ w (c .before .before .before .before .before .before .before .loop2-test .taken) in let e = sym (c .before .before .before .before .leave .ensures) ∙ c .before .before .l2 .given .1 in let g = subst GoodLeft e (left-good _ _ (c .before .before .before .before .before .before .before .before .before .before .before .before .before .before .before .before .pre .0) (d .good) (d .ok)) in cut-two _ _ (c .before .before .before .before .before .before .before .before .before .before .before .before .before .before .before .before .pre .0) ss h _ (finds-end _ _ _ _ ss (c .before .before .before .before .before .before .before .before .before .before .before .before .before .before .loop .inv ss (h .held)) (c .before .before .before .before .before .before .before .before .before .before .before .before .before .loop-test .left)) _ (c .before .before .before .before .before .before .before .before .before .before .before .can-cut .ensures) _ (c .before .before .before .before .before .before .before .before .before .enum-told .given .1) _ (c .before .before .l2 .given .0 .0) _ e _ (trims-two _ _ _ _ _ w _ (c .before .before .l2 .given .0 .0) _ (c .before .before .before .before .before .before .before .loop2-test .taken) e (c .link-in .ensures _ (d .more) (zip-put _ _ _ (w .done) (d .more) _ (c .before .before .l2 .given .0 .0) (d .zip) (g .0)) (trims-room _ _ _ _ _ w (c .before .before .l2 .given .0 .0) _ (c .before .before .before .before .before .before .before .loop2-test .taken) e) (g .1)))
 
 has-half-requires : tie.Need-has-half-requires Inv-loop μ-loop Inv-loop2 μ-loop2
 has-half-requires c κs = search needs
 
 insert-segment-requires : tie.Need-insert-segment-requires Inv-loop μ-loop Inv-loop2 μ-loop2
-insert-segment-requires c κs = let ss = c .before .before .before .before .before .before .before .before .before .before .before .before .pre .1 .0 in let h = c .before .before .before .before .before .before .before .before .before .before .before .before .pre .1 .1 in (cut-good _ _ (c .before .before .before .before .before .before .before .before .before .before .before .before .pre .0) ss h _ (finds-end _ _ _ _ ss (c .before .before .before .before .before .before .before .before .before .before .loop .inv ss h) (c .before .before .before .before .before .before .before .before .before .loop-test .left)) _ (c .before .before .before .before .before .before .before .can-cut .ensures) _ (c .before .before .before .before .before .enum-told .given .1) (sym (c .before .before .has-half .ensures) ∙ c .before .if1 .taken), (_, (trims-end _ _ _ _ _ (c .before .before .before .before .loop2 .inv ss h) (c .before .before .before .loop2-test .left)), λ n. cut-small _ _ (c .before .before .before .before .before .before .before .before .before .before .before .before .pre .0) ss h _ (finds-end _ _ _ _ ss (c .before .before .before .before .before .before .before .before .before .before .loop .inv ss h) (c .before .before .before .before .before .before .before .before .before .loop-test .left)) _ (c .before .before .before .before .before .before .before .can-cut .ensures) _ (c .before .before .before .before .before .enum-told .given .1) (sym (c .before .before .has-half .ensures) ∙ c .before .if1 .taken)))
+insert-segment-requires c κs = let ss = c .before .before .before .before .before .before .before .before .before .before .before .before .pre .1 .0 in let h = c .before .before .before .before .before .before .before .before .before .before .before .before .pre .1 .1 in (cut-good _ _ (c .before .before .before .before .before .before .before .before .before .before .before .before .pre .0) ss h _ (finds-end _ _ _ _ ss (c .before .before .before .before .before .before .before .before .before .before .loop .inv ss (h .held)) (c .before .before .before .before .before .before .before .before .before .loop-test .left)) _ (c .before .before .before .before .before .before .before .can-cut .ensures) _ (c .before .before .before .before .before .enum-told .given .1) (sym (c .before .before .has-half .ensures) ∙ c .before .if1 .taken), (_, (trims-end _ _ _ _ _ (c .before .before .before .before .loop2 .inv ss h) (c .before .before .before .loop2-test .left)), λ n. cut-small _ _ (c .before .before .before .before .before .before .before .before .before .before .before .before .pre .0) ss h _ (finds-end _ _ _ _ ss (c .before .before .before .before .before .before .before .before .before .before .loop .inv ss (h .held)) (c .before .before .before .before .before .before .before .before .before .loop-test .left)) _ (c .before .before .before .before .before .before .before .can-cut .ensures) _ (c .before .before .before .before .before .enum-told .given .1) (sym (c .before .before .has-half .ensures) ∙ c .before .if1 .taken)))
 
 returns-3 : tie.Need-returns-3 Inv-loop μ-loop Inv-loop2 μ-loop2
-returns-3 c = λ ss h. cut-half _ _ (c .before .before .before .before .before .before .before .before .before .before .before .before .before .pre .0) ss h _ (finds-end _ _ _ _ ss (c .before .before .before .before .before .before .before .before .before .before .before .loop .inv ss h) (c .before .before .before .before .before .before .before .before .before .before .loop-test .left)) _ (c .before .before .before .before .before .before .before .before .can-cut .ensures) _ (c .before .before .before .before .before .before .enum-told .given .1) (sym (c .before .before .before .has-half .ensures) ∙ c .before .before .if1 .taken) _ _ (c .insert-segment .ensures _ (trims-end _ _ _ _ _ (c .before .before .before .before .before .loop2 .inv ss h) (c .before .before .before .before .loop2-test .left)) (λ n. cut-small _ _ (c .before .before .before .before .before .before .before .before .before .before .before .before .before .pre .0) ss h _ (finds-end _ _ _ _ ss (c .before .before .before .before .before .before .before .before .before .before .before .loop .inv ss h) (c .before .before .before .before .before .before .before .before .before .before .loop-test .left)) _ (c .before .before .before .before .before .before .before .before .can-cut .ensures) _ (c .before .before .before .before .before .before .enum-told .given .1) (sym (c .before .before .before .has-half .ensures) ∙ c .before .before .if1 .taken)))
+returns-3 c = λ ss h. cut-half _ _ (c .before .before .before .before .before .before .before .before .before .before .before .before .before .pre .0) ss h _ (finds-end _ _ _ _ ss (c .before .before .before .before .before .before .before .before .before .before .before .loop .inv ss (h .held)) (c .before .before .before .before .before .before .before .before .before .before .loop-test .left)) _ (c .before .before .before .before .before .before .before .before .can-cut .ensures) _ (c .before .before .before .before .before .before .enum-told .given .1) (sym (c .before .before .before .has-half .ensures) ∙ c .before .before .if1 .taken) _ _ (c .insert-segment .ensures _ (trims-end _ _ _ _ _ (c .before .before .before .before .before .loop2 .inv ss h) (c .before .before .before .before .loop2-test .left)) (λ n. cut-small _ _ (c .before .before .before .before .before .before .before .before .before .before .before .before .before .pre .0) ss h _ (finds-end _ _ _ _ ss (c .before .before .before .before .before .before .before .before .before .before .before .loop .inv ss (h .held)) (c .before .before .before .before .before .before .before .before .before .before .loop-test .left)) _ (c .before .before .before .before .before .before .before .before .can-cut .ensures) _ (c .before .before .before .before .before .before .enum-told .given .1) (sym (c .before .before .before .has-half .ensures) ∙ c .before .before .if1 .taken)))
 
 returns-4 : tie.Need-returns-4 Inv-loop μ-loop Inv-loop2 μ-loop2
-returns-4 c = λ ss h. cut-end _ _ (c .before .before .before .before .before .before .before .before .before .before .before .pre .0) ss h _ (finds-end _ _ _ _ ss (c .before .before .before .before .before .before .before .before .before .loop .inv ss h) (c .before .before .before .before .before .before .before .before .loop-test .left)) _ (c .before .before .before .before .before .before .can-cut .ensures) _ (c .before .before .before .before .enum-told .given .1) (sym (c .before .has-half .ensures) ∙ c .if1 .left) _ (trims-end _ _ _ _ _ (c .before .before .before .loop2 .inv ss h) (c .before .before .loop2-test .left))
+returns-4 c = λ ss h. cut-end _ _ (c .before .before .before .before .before .before .before .before .before .before .before .pre .0) ss h _ (finds-end _ _ _ _ ss (c .before .before .before .before .before .before .before .before .before .loop .inv ss (h .held)) (c .before .before .before .before .before .before .before .before .loop-test .left)) _ (c .before .before .before .before .before .before .can-cut .ensures) _ (c .before .before .before .before .enum-told .given .1) (sym (c .before .has-half .ensures) ∙ c .if1 .left) _ (trims-end _ _ _ _ _ (c .before .before .before .loop2 .inv ss h) (c .before .before .loop2-test .left))
 
 pub cut-spec : {M : Type 1} → statement M
 cut-spec =

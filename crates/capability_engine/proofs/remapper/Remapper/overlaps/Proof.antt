@@ -5,17 +5,17 @@ use mathlib.Core.Bool.{true, false}
 use mathlib.Core.List.{List}
 use Rattle.definitions.specs.declared.remapper.Segment.{Segment}
 use Rattle.capability_engine.specs.RemapHeld.{Holds, ahead}
-use Rattle.capability_engine.proofs.RemapCalls.{overlap-large, overlap-says}
-use Rattle.capability_engine.proofs.RemapWalks.{Meets, meets-start, meets-end, meets-hit, meets-stop, meets-on, some-open, some-less}
+use Rattle.capability_engine.proofs.RemapCalls.{overlap-large, overlap-none, overlap-says}
+use Rattle.capability_engine.proofs.RemapWalks.{Meets, meets-start, meets-end, meets-hit, meets-on, some-open, some-less}
 use borrow.Author.Needs.{needs}
 use Rattle.capability_engine.proofs.remapper.Remapper.overlaps.Statement.{statement}
 use Rattle.capability_engine.proofs.remapper.Remapper.overlaps.Tie as tie
 
 abbrev Inv-loop : tie.InvT-loop
-Inv-loop start size self a e at₀ at = (ss : List Segment) → Holds self ss → Meets self start (record { 0 = e }) at ss
+Inv-loop start size self a end at₀ at = (ss : List Segment) → Holds self ss → Meets self start end at ss
 
 abbrev μ-loop : tie.MeasureT-loop
-μ-loop start size self a e at₀ at = ahead (self .links) at
+μ-loop start size self a end at₀ at = ahead (self .links) at
 
 sub-if1 : tie.Need-sub-if1 Inv-loop μ-loop
 sub-if1 c = search needs
@@ -23,8 +23,11 @@ sub-if1 c = search needs
 returns : tie.Need-returns Inv-loop μ-loop
 returns c = λ k h. overlap-large k _ _ (omega arith)
 
-add-e : tie.Need-add-e Inv-loop μ-loop
-add-e c = search needs
+returns-2 : tie.Need-returns-2 Inv-loop μ-loop
+returns-2 c = λ k h. overlap-none k _ _ (omega arith) (c .if2 .taken)
+
+add-t9 : tie.Need-add-t9 Inv-loop μ-loop
+add-t9 c = search needs
 
 loop-holds : tie.Need-loop-holds Inv-loop μ-loop
 loop-holds c = λ ss h. meets-start _ _ _ ss h
@@ -35,16 +38,12 @@ mul-s c = search needs
 element-copy-out-s : tie.Need-element-copy-out-s Inv-loop μ-loop
 element-copy-out-s c = search needs
 
-is-hit-requires : tie.Need-is-hit-requires Inv-loop μ-loop
-is-hit-requires c κs = let w = c .before .before .loop .inv (c .before .before .before .before .pre .0) (c .before .before .before .before .pre .1) in some-open _ _ (w .0) (w .1) (c .before .loop-test .taken) .good
-
-returns-2 : tie.Need-returns-2 Inv-loop μ-loop
-unfolding guestUp
-returns-2 c = λ k h. overlap-says k _ _ (omega arith) true (meets-hit _ _ _ _ _ (c .before .before .before .before .loop .inv (k .segments) h) (c .before .before .before .loop-test .taken) (sym (c .before .is-hit .ensures) ∙ c .if2 .taken))
+is-touched-requires : tie.Need-is-touched-requires Inv-loop μ-loop
+is-touched-requires c κs = let w = c .before .before .loop .inv (c .before .before .before .before .before .pre .0) (c .before .before .before .before .before .pre .1) in some-open _ _ (w .0) (w .1) (c .before .loop-test .taken) .good
 
 returns-3 : tie.Need-returns-3 Inv-loop μ-loop
 unfolding guestUp
-returns-3 c = λ k h. overlap-says k _ _ (omega arith) false (meets-stop _ _ _ _ _ (c .before .before .before .before .before .loop .inv (k .segments) h) (c .before .before .before .before .loop-test .taken) (sym (c .before .before .is-hit .ensures) ∙ c .before .if2 .left) (c .if3 .taken))
+returns-3 c = λ k h. overlap-says k _ _ (omega arith) (c .before .before .before .before .before .if2 .left) true (meets-hit _ _ _ _ (k .segments) (c .before .before .before .before .loop .inv (k .segments) h) (c .before .before .before .loop-test .taken) (sym (c .before .is-touched .ensures) ∙ c .if3 .taken))
 
 element-copy-out-at : tie.Need-element-copy-out-at Inv-loop μ-loop
 element-copy-out-at c = search needs
@@ -53,14 +52,14 @@ cast-at : tie.Need-cast-at Inv-loop μ-loop
 cast-at c = search needs
 
 loop-less : tie.Need-loop-less Inv-loop μ-loop
-loop-less c = let w = c .before .before .before .before .before .before .loop .inv (c .before .before .before .before .before .before .before .before .pre .0) (c .before .before .before .before .before .before .before .before .pre .1) in some-less _ _ (w .0) (w .1) (c .before .before .before .before .before .loop-test .taken)
+loop-less c = let w = c .before .before .before .before .before .loop .inv (c .before .before .before .before .before .before .before .before .pre .0) (c .before .before .before .before .before .before .before .before .pre .1) in some-less _ _ (w .0) (w .1) (c .before .before .before .before .loop-test .taken)
 
 loop-again : tie.Need-loop-again Inv-loop μ-loop
-loop-again c = λ ss h. meets-on _ _ _ _ ss (c .before .before .before .before .before .before .loop .inv ss h) (c .before .before .before .before .before .loop-test .taken) (sym (c .before .before .before .is-hit .ensures) ∙ c .before .before .if2 .left) (c .before .if3 .left)
+loop-again c = λ ss h. meets-on _ _ _ _ ss (c .before .before .before .before .before .loop .inv ss h) (c .before .before .before .before .loop-test .taken) (sym (c .before .before .is-touched .ensures) ∙ c .before .if3 .left)
 
 returns-4 : tie.Need-returns-4 Inv-loop μ-loop
 unfolding guestUp
-returns-4 c = λ k h. overlap-says k _ _ (omega arith) false (meets-end _ _ _ _ _ (c .before .loop .inv (k .segments) h) (c .loop-test .left))
+returns-4 c = λ k h. overlap-says k _ _ (omega arith) (c .before .before .if2 .left) false (meets-end _ _ _ _ (k .segments) (c .before .loop .inv (k .segments) h) (c .loop-test .left))
 
 pub overlaps-spec : {M : Type 1} → statement M
 overlaps-spec =
@@ -70,12 +69,12 @@ overlaps-spec =
     μ-loop
     sub-if1
     returns
-    add-e
+    returns-2
+    add-t9
     loop-holds
     mul-s
     element-copy-out-s
-    is-hit-requires
-    returns-2
+    is-touched-requires
     returns-3
     element-copy-out-at
     cast-at

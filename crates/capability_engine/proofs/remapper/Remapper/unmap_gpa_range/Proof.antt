@@ -12,14 +12,14 @@ value-requires : tie.Need-value-requires
 value-requires c κs = search needs
 
 returns : tie.Need-returns
-returns c = λ k h. gpa-early _ k h _ _ _ (c .before .before .can-start .ensures) _ (c .before .value .ensures) (c .if1 .taken)
+returns c = λ k h. gpa-early _ k (h .held) _ _ _ (c .before .before .can-start .ensures) _ (c .before .value .ensures) (c .if1 .taken)
 
 add-t7 : tie.Need-add-t7
 add-t7 c = record { fits = gpa-fits _ (holding (c .before .before .before .before .before .pre .0)) (c .before .before .before .before .before .pre .1) _ _ _ (c .before .before .before .can-start .ensures) _ (c .before .before .value .ensures) (c .before .if1 .left) }
 
 returns-2 : tie.Need-returns-2
 unfolding guestUp
-returns-2 c = λ k h. gpa-cuts _ k h _ _ _ (c .before .before .before .can-start .ensures) _ (c .before .before .value .ensures) (c .before .if1 .left)
+returns-2 c = λ k h. gpa-cuts _ k (h .held) _ _ _ (c .before .before .before .can-start .ensures) _ (c .before .before .value .ensures) h (c .before .if1 .left)
 
 pub unmap-gpa-range-spec : {M : Type 1} → statement M
 unmap-gpa-range-spec =
