@@ -1,5 +1,5 @@
 //! What a run has seen, as a table, and the smallest script for each thing that the two sides do differently.
-use crate::compare::{check, lists, Class, Depth, Script, Tally};
+use crate::compare::{check, lists, Asked, Class, Depth, Script, Tally};
 use crate::judge::{Said, Tables};
 use crate::line::{self, Call};
 use crate::port::{self, List};
@@ -20,6 +20,20 @@ pub fn table(tally: &Tally) -> String {
     );
     for ((answer, letter, original), (many, altered)) in rows {
         let _ = writeln!(out, "| {answer} | {letter} | {many} | {} | {altered} |", original.replace('|', "\\|"));
+    }
+    out
+}
+
+/// What `overlaps` answers otherwise than the original, with the smallest script and range that were seen.
+pub fn overlaps(tally: &Tally) -> String {
+    let mut out = String::from(
+        "\n## What `overlaps` answers otherwise\n\n| why | times | script | then `overlaps` of | the original | the port |\n|---|---|---|---|---|---|\n",
+    );
+    let word = |answer: u64| if answer == 1 { "yes" } else { "no" };
+    for (why, (ours, many, asked)) in &tally.overlaps {
+        let (script, Asked { start, size, compartment, .. }) = (shown(&asked.lines), asked);
+        let both = format!("{} | {}", word(1 - ours), word(*ours));
+        let _ = writeln!(out, "| {why} | {many} | {script} | ({start}, {size}) in {compartment} | {both} |");
     }
     out
 }

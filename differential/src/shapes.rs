@@ -351,7 +351,8 @@ fn refusals() -> Script {
         call(Kind::UnmapGpa, 2, &[1000, 4]),
         call(Kind::Map, 3, &[0, 5, 1, 1]),
         call(Kind::Map, 3, &[0, 4, 3, 1]),
-        call(Kind::UnmapGpa, 3, &[5, 1]),
+        call(Kind::Map, 3, &[1, 2, 2, 1]),
+        call(Kind::Map, 3, &[2, 3, 1, 1]),
     ];
     calls.extend((0..65).map(|i| call(Kind::Map, 4, &[0, 1 + i, 1, 1])));
     let mut script = script_of(&calls);
@@ -359,9 +360,16 @@ fn refusals() -> Script {
     script
 }
 
-/// Scripts that reach every answer, whatever the seed.
-pub fn fixed() -> [Script; 3] {
-    [refusals(), full_pool(), full_counts()]
+/// A segment, and one behind another of a higher guest address: `overlaps` is asked about both.
+fn one_and_two() -> [Script; 2] {
+    let map = |numbers: &[u64]| Call::new(Kind::Map, 0, numbers);
+    [script_of(&[map(&[0, 1, 1, 1])]), script_of(&[map(&[0, 2, 1, 1]), map(&[1, 0, 1, 1])])]
+}
+
+/// Scripts that reach every answer and every departure of `overlaps`, whatever the seed.
+pub fn fixed() -> [Script; 5] {
+    let [one, two] = one_and_two();
+    [refusals(), full_pool(), full_counts(), one, two]
 }
 
 /// The calls of the small universe: addresses 0 to 3.
