@@ -116,6 +116,7 @@ onRefcount c a e = Accepted (refcountOf a e (regions (c .values)))
 unfoldable pub onOverlaps : Compartment → GuestAddr → ℕ → Answer
 onOverlaps c g n = ask ((fits (g .0 + n), Overflow) ∷ []) (Accepted (bit (overlaps g n (c .segments))))
 
+-- 11 by the meaning of order 1 (document 02), of a map that stores nothing too
 unfoldable pub onMap : Compartment → HostAddr → GuestAddr → ℕ → ℕ → Answer
 onMap c h g n t =
     ask
@@ -132,6 +133,7 @@ onUnmap c h n =
     ∷ (not (any (frontCut h e) ss), FrontCut) ∷ (inOrder (unmapped h n ss), OutOfOrder) ∷ [])
     (Accepted 0)
 
+-- 16, asked after 15, never gets a no from tables grown from empty ones (document 02, order 1: proofs/Sixteen.antt)
 unfoldable pub onUnmapGpa : Compartment → GuestAddr → ℕ → Answer
 onUnmapGpa c g n =
     let ss = c .segments in

@@ -19,7 +19,7 @@ pub enum Refusal {
     FrontCut, // 13: no stored segment is cut at its front
     OutOfOrder, // 14: the list left is in host order
     Repeated, // 15: what is cut has repeat 1
-    OthersTouched, // 16: a range strictly inside one segment touches no other
+    OthersTouched, // 16: a range strictly inside one segment touches no other; never a no since order 1
     Malformed, // 17: the script line has the form
 }
 
