@@ -335,10 +335,10 @@ fn ask_guest(start: GuestAddr, end: GuestAddr, k: Asked, s: Segment) -> Asked
     requires { ⌜ Good s × (start .0 ≤ end .0) ⌝ }
     ensures { λ r. ⌜ r ≡ askGuest start end k s ⌝ }
 {
-    let before = k.half;
-    let half = second(start, end, s, before);
     let split = or(k.split, is_span_inside(start, end, s));
     let bad = or(k.bad, is_repeated(start, end, s));
+    let before = k.half;
+    let half = second(start, end, s, before);
     Asked { split, half, bad }
 }
 
