@@ -55,7 +55,7 @@ uint64_t segments_page(const uint8_t *script, size_t script_len, uint64_t compar
 
 /*
  * Does a range of `size` guest addresses from `start` on share an address with the guest span of a stored segment, in a compartment after
- * a script? 1 or 0. An empty range shares none. A map of a range for which this answers 1 would be refused with 11.
+ * a script? 1 or 0. An empty range shares none. No map of a range for which this answers 1 is accepted.
  * Refused with 1 where the compartment is 8 or above, with 10 where start + size does not fit 64 bits.
  */
 uint64_t overlaps_after(const uint8_t *script, size_t script_len, uint64_t compartment, uint64_t start, uint64_t size);
