@@ -198,6 +198,21 @@ module _ (ls : List (List ℕ)) (out₀ out : List ℕ) (p₀ p : Progress) (res
     printing-fits h =
         omega (arith, i .from, ap length (i .split), length-append (i .done) rest, ap length e)
 
+-- from the first mapping on: the lines written, and the mappings to come, are all
+pub printing-left : (out₀ out : List ℕ) (p₀ p : Progress) (k : ℕ) (ms left : List Mapping)
+    → Printing (drop (k - 1) (map mappingLine ms)) out₀ out p₀ p (map mappingLine left) → k ≡ 1 → p .lines + length left ≡ p₀ .lines + length ms
+printing-left out₀ out p₀ p k ms left i e =
+    omega (
+      arith,
+      e,
+      i .adds .many,
+      ap length (i .split),
+      length-append (i .done) (map mappingLine left),
+      length-drop (k - 1) (map mappingLine ms),
+      length-map ms mappingLine,
+      length-map left mappingLine,
+    )
+
 -- the lines of the mappings from the k-th on
 pub mappings-from : (k : ℕ) (ms all left : List Mapping) → all ≡ ms → left ≡ drop k all → drop k (map mappingLine ms) ≡ map mappingLine left
 mappings-from k ms all left e f = sym (map-drop mappingLine k ms) ∙ ap (λ (l : List Mapping). map mappingLine (drop k l)) (sym e) ∙ ap (map mappingLine) (sym f)
@@ -270,12 +285,6 @@ module _ (words next : List ℕ) (t : RegionTracker) (m : Remapper) (c : Compart
 
       module _ (out′ : List ℕ) (r : Progress)
           (i : Prints (drop (1 - 1) (map mappingLine (stream (storedAt next words (t .head)) (segmentsFrom copy 0 n)))) out out′ begun r) where
-        -- when all are written, there are as many as lines were written
-        pub print-many : r .full ≡ false → r .lines - begun .lines ≡ length (stream (storedAt next words (t .head)) (segmentsFrom copy 0 n))
-        print-many f =
-            let ms : List Mapping = stream (storedAt next words (t .head)) (segmentsFrom copy 0 n) in
-            omega (arith, i .adds .many, ap length (i .split), length-append (i .written) (i .left), ap length (i .whole f .0), length-map ms mappingLine)
-
         pub print-all : (many : ℕ) (out″ : List ℕ) (u : Put) → p .lines ≤ p .at → p .at + 25 ≤ length out
             → many ≡ length (stream (storedAt next words (t .head)) (segmentsFrom copy 0 n)) → Wrote (p .at) (answerLine (Accepted many)) out′ u out″
             → Prints (drop (p .from) (linesOn c)) out out″ p r

@@ -117,6 +117,7 @@ module _ (nx ws sg : List ℕ) (n : ℕ) (c : RemapCursor) (g : Ready nx ws sg n
           owner = λ _. w;
         },
         omega arith,
+        record { segment = refl; end = refl },
       )
 
   -- from here on the segment begun last is over, and there is a record

@@ -64,6 +64,10 @@ remaining-most nx ws sg n c t g =
       t .few,
     ))
 
+pub stream-most : (nx ws sg : List ℕ) (n h : ℕ) → Table ws sg n → Whole nx ws h → length (stream (storedAt nx ws h) (segmentsFrom sg 0 n)) ≤ 140000
+stream-most nx ws sg n h t g =
+    omega (arith, ap length (start-stream nx ws sg n h t g), remaining-most nx ws sg n (atStart h) t (starts nx ws sg n h t g))
+
 -- what the engine shows: slots that hold the records rs, and numbers that hold the segments ss
 pub whole-of : {nx ws : List ℕ} {h : ℕ} {ss : List ℕ} {rs : List Region} → Listed nx h ss → records ws ss ≡ rs → Runs 0 rs → EndBy (2 ^ 64) rs
     → Whole nx ws h × (storedAt nx ws h ≡ rs)

@@ -2,6 +2,7 @@
 use Prim.Native.Nat.{ℕ, _+_, _-_, _^_, _≤_, _<_, min, max}
 use mathlib.Core.Path.{_≡_, refl, ap, _∙_}
 use mathlib.Core.Bool.{Bool, true, false}
+use mathlib.Core.Logic.{inl, inr}
 use mathlib.Core.List.{List, [], _∷_, _++_, map}
 use native.Mathlib.Omega.{arith}
 use native.Mathlib.Decide.{decLt}
@@ -22,22 +23,22 @@ use Rattle.capability_engine.specs.declared.stream.Turn.the-variants.{Yi
 use Rattle.capability_engine.specs.PoolWords.{regionAt}
 use Rattle.capability_engine.specs.StreamFlow.{part, Rising}
 use Rattle.capability_engine.specs.SegmentWords.{segmentAt, segmentsFrom}
-use Rattle.capability_engine.specs.StreamCursor.{Table, goesOn, remaining, Ready, toGo, Says, Turned, runs, openFrom, passedTo, begins, lastTurn, firstTurn}
+use Rattle.capability_engine.specs.StreamCursor.{Table, goesOn, remaining, Ready, toGo, Kept, Says, Turned, runs, openFrom, passedTo, begins, lastTurn, firstTurn}
 use Rattle.capability_engine.proofs.StreamFlows.{part-none, part-some, part-above, above-none, above-some}
 use Rattle.capability_engine.proofs.StreamLinks.{segments-step, segments-none, good-at}
 use Rattle.capability_engine.proofs.StreamMoves.{Move, pass, begin, first}
 
 -- a move whose part of a record is [from, to), if that is not empty
-turned-run : {nx ws sg : List ℕ} {n : ℕ} {c d : RemapCursor} (ms : List Mapping) → Move nx ws sg n c d ms → (from to : ℕ) (r : Region)
+turned-run : {nx ws sg : List ℕ} {n : ℕ} {c d : RemapCursor} (ms : List Mapping) → Move nx ws sg n c d ms → Kept c d → (from to : ℕ) (r : Region)
     → (from < to → ms ≡ identity (region (host from) (host to) (r .values)) ∷ []) → (to ≤ from → ms ≡ [])
     → Turned nx ws sg n c (runs from to r d)
 unfolding runs
-turned-run {nx} {ws} {sg} {n} {c} {d} ms v from to r some none = go (from <? to) refl
+turned-run {nx} {ws} {sg} {n} {c} {d} ms v k from to r some none = go (from <? to) refl
   where
     go : (b : Bool) → (from <? to) ≡ b
         → Turned nx ws sg n c (if b then Yields (identity (region (host from) (host to) (r .values))) d else Skips d)
-    go true e = (v .same ∙ ap (λ (l : List Mapping). l ++ remaining nx ws sg n d) (some (ltb-true from to e)), v .ready, omega (arith, v .less))
-    go false e = (v .same ∙ ap (λ (l : List Mapping). l ++ remaining nx ws sg n d) (none (ltb-false from to e)), v .ready, v .less)
+    go true e = (v .same ∙ ap (λ (l : List Mapping). l ++ remaining nx ws sg n d) (some (ltb-true from to e)), v .ready, omega (arith, v .less), k)
+    go false e = (v .same ∙ ap (λ (l : List Mapping). l ++ remaining nx ws sg n d) (none (ltb-false from to e)), v .ready, v .less, inl k)
 
 -- what comes of a record from where it is open, up to its end or up to an address
 module _ (c : RemapCursor) (r : Region) where
@@ -69,7 +70,7 @@ module _ (nx ws sg : List ℕ) (n : ℕ) (c : RemapCursor) (g : Ready nx ws sg n
       let q : Region = regionAt ws (c .region) in
       rw (et, er)
       (turned-run (map identity (above (max (c .at .0) (c .covered .0)) q)) (pass nx ws sg n c g e l (rw (segments-none sg (c .segment) n k) tt))
-      (openFrom c q) (q .end .0) q (whole-run c q) (no-run c q))
+      (record { segment = refl; end = refl }) (openFrom c q) (q .end .0) q (whole-run c q) (no-run c q))
 
   module _ (s : Segment) (k : c .segment < n) (es : s ≡ segmentAt sg (c .segment)) (low : ℕ) (el : low ≡ max (c .at .0) (r .start .0)) where
     -- a segment is begun
@@ -77,7 +78,7 @@ module _ (nx ws sg : List ℕ) (n : ℕ) (c : RemapCursor) (g : Ready nx ws sg n
     turned-begin d h ed =
         let q : segmentAt sg (c .segment) .hpa .0 ≤ max (c .at .0) (regionAt ws (c .region) .start .0) = rw (el, es, er) at h in
         let v = begin nx ws sg n c g e l k q in
-        rw (ed, es) (v .same, v .ready, v .less)
+        rw (ed, es) (v .same, v .ready, v .less, inr refl)
 
     -- a part of the record comes first
     first-move : low < s .hpa .0
@@ -101,7 +102,7 @@ module _ (nx ws sg : List ℕ) (n : ℕ) (c : RemapCursor) (g : Ready nx ws sg n
     turned-first t h et =
         rw et
         (turned-run (map identity (part (max (c .at .0) (c .covered .0)) (s .hpa .0) r)) (first-move h)
-        (openFrom c r) (min (r .end .0) (s .hpa .0)) r (cut-run c r (s .hpa .0)) (no-cut c r (s .hpa .0)))
+        (record { segment = refl; end = refl }) (openFrom c r) (min (r .end .0) (s .hpa .0)) r (cut-run c r (s .hpa .0)) (no-cut c r (s .hpa .0)))
 
 -- the end of a segment of the table fits
 pub end-fits : {ws sg : List ℕ} {n : ℕ} (i : ℕ) (s : Segment) → Table ws sg n → i < n → s ≡ segmentAt sg i → s .hpa .0 + s .size < 2 ^ 64
@@ -119,11 +120,11 @@ module _ (nx ws sg : List ℕ) (n : ℕ) (c : RemapCursor) (q : Turn) (h : Turne
   told-ends e = rw e at h
 
   pub told-yields : (m : Mapping) (d : RemapCursor) → q ≡ Yields m d → Says nx ws sg n c (Found m d)
-  told-yields m d e = rw e at h
+  told-yields m d e = let v : Turned nx ws sg n c (Yields m d) = rw e at h in (v .0, v .1, v .2)
 
   pub told-skips : (d : RemapCursor) → q ≡ Skips d
       → (remaining nx ws sg n c ≡ remaining nx ws sg n d) × Ready nx ws sg n d × (toGo nx ws sg n d < toGo nx ws sg n c)
-  told-skips d e = rw e at h
+  told-skips d e = let v : Turned nx ws sg n c (Skips d) = rw e at h in (v .0, v .1, v .2)
 
   -- the step s behind the skip is the step from c on, built anew as z
   pub told-on : (d : RemapCursor) → q ≡ Skips d → (s z : Step) → Says nx ws sg n d s → s ≡ z → Says nx ws sg n c z

@@ -2,6 +2,7 @@
 use Prim.Native.Nat.{ℕ, _+_, _-_, _*_, _^_, _≤_, _<_, min, max}
 use mathlib.Core.Path.{_≡_}
 use mathlib.Core.Bool.{Bool, true, _&&_}
+use mathlib.Core.Logic.{_⊎_}
 use mathlib.Core.List.{List, [], _∷_, _++_}
 use lib.ListN.{length}
 use Rattle.definitions.specs.Tests.{_<?_, _=?_, if_then_else_, host}
@@ -85,14 +86,33 @@ pub record Ready (nx ws sg : List ℕ) (n : ℕ) (c : RemapCursor) : Type 0 wher
 unfoldable pub toGo : List ℕ → List ℕ → List ℕ → ℕ → RemapCursor → ℕ
 toGo nx ws sg n c = left (c .at .0) (storedAt nx ws (c .region)) (rest sg n c)
 
+-- a segment is begun at the record that is not passed yet: its end is added up here
+abbrev pub begins : RemapCursor → Segment → RemapCursor
+begins c s = record {
+  region = c .region;
+  at = s .hpa;
+  covered = record { 0 = max (c .covered .0) (s .hpa .0 + s .size) };
+  segment = c .segment + 1;
+  ongoing = c .region;
+  end = record { 0 = s .hpa .0 + s .size };
+}
+
+-- none is begun: the end that was added up last is kept
+pub record Kept (c d : RemapCursor) : Type 0 where
+  pub segment : d .segment ≡ c .segment
+  pub end : d .end ≡ c .end
+
 -- what a turn answers at c. Where it yields, the number above does not grow: so the turns of all steps together are at
 -- most as many as the mappings, and twice the records and the segments, and one.
+-- Document 02, order 2: "one page read is to add up each segment's host end at most once". A turn that yields adds up none;
+-- one that skips adds up the next segment's end, or none.
 abbrev pub Turned : List ℕ → List ℕ → List ℕ → ℕ → RemapCursor → Turn → Type 0
 Turned nx ws sg n c Ends = remaining nx ws sg n c ≡ []
 Turned nx ws sg n c (Yields m d) =
-    (remaining nx ws sg n c ≡ m ∷ remaining nx ws sg n d) × Ready nx ws sg n d × (toGo nx ws sg n d ≤ toGo nx ws sg n c)
+    (remaining nx ws sg n c ≡ m ∷ remaining nx ws sg n d) × Ready nx ws sg n d × (toGo nx ws sg n d ≤ toGo nx ws sg n c) × Kept c d
 Turned nx ws sg n c (Skips d) =
     (remaining nx ws sg n c ≡ remaining nx ws sg n d) × Ready nx ws sg n d × (toGo nx ws sg n d < toGo nx ws sg n c)
+    × (Kept c d ⊎ (d ≡ begins c (segmentAt sg (c .segment))))
 
 -- what a step answers at c
 abbrev pub Says : List ℕ → List ℕ → List ℕ → ℕ → RemapCursor → Step → Type 0
@@ -140,17 +160,6 @@ passedTo c r to nxt = record {
   segment = c .segment;
   ongoing = 1024;
   end = c .end;
-}
-
--- a segment is begun
-abbrev pub begins : RemapCursor → Segment → RemapCursor
-begins c s = record {
-  region = c .region;
-  at = s .hpa;
-  covered = record { 0 = max (c .covered .0) (s .hpa .0 + s .size) };
-  segment = c .segment + 1;
-  ongoing = c .region;
-  end = record { 0 = s .hpa .0 + s .size };
 }
 
 abbrev pub lastTurn : RemapCursor → Region → ℕ → Turn

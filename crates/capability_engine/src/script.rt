@@ -85,6 +85,12 @@ pub(crate) struct Heard {
     pub(crate) task: Task,
 }
 
+// How far a P is written; and in its first piece how many mappings did not fit.
+pub(crate) struct Printed {
+    pub(crate) progress: Progress,
+    pub(crate) left: usize,
+}
+
 // A line is a call on the regions or the segments of a compartment, or a P, or is refused at once.
 fn task_of(line: Line) -> Task
     ensures { λ r. ⌜ r ≡ taskOf line ⌝ }
@@ -162,7 +168,8 @@ fn tell(out: &mut [u8], progress: Progress, answer: Answer) -> Progress
     p
 }
 
-// The lines of a P behind its first, as many as fit.
+// The lines of a P behind its first, as many as fit. Its first piece has to say how many they are in all: those that do not fit are
+// counted from there on.
 fn print_mappings(
     next: &[usize],
     words: &[u64],
@@ -171,12 +178,14 @@ fn print_mappings(
     head: usize,
     out: &mut [u8],
     progress: Progress,
-) -> Progress
+) -> Printed
     requires { ⌜ Table (now words) (now segments) n ⌝ }
     requires { ⌜ Whole (now next) (now words) head ⌝ }
     requires { ⌜ (1 ≤ progress .from) × (progress .full ≡ false) × (progress .lines ≤ progress .at) ⌝ }
     ensures { λ r. ⌜ Prints (drop (progress .from - 1) (map mappingLine (stream (storedAt (now (next .entry)) (now (words .entry)) head) (segmentsFrom (now (segments .entry)) 0 n))))
-        (now (out .entry)) (now (out .exit)) progress r ⌝ }
+        (now (out .entry)) (now (out .exit)) progress (r .progress) ⌝ }
+    ensures { λ r. ⌜ (progress .from ≡ 1 → r .progress .lines + r .left
+        ≡ progress .lines + length (stream (storedAt (now (next .entry)) (now (words .entry)) head) (segmentsFrom (now (segments .entry)) 0 n))) ⌝ }
 {
     let c = start(next, words, segments, n, head);
     let mut cursor = advance(c, next, words, segments, n, progress.from - 1);
@@ -185,12 +194,22 @@ fn print_mappings(
         let s = next_mapping(cursor, next, words, segments, n);
         let Step::Found(m, d) = s else {
             p.compartment = 8;
-            return p;
+            return Printed {
+                progress: p,
+                left: 0,
+            };
         };
         let put = put_mapping(out, p.at, m);
         let Put::At(at) = put else {
             p.full = true;
-            return p;
+            if progress.from > 1 {
+                return Printed {
+                    progress: p,
+                    left: 0,
+                };
+            }
+            let left = count(cursor, next, words, segments, n);
+            return Printed { progress: p, left };
         };
         p.at = at;
         p.lines += 1;
@@ -199,7 +218,7 @@ fn print_mappings(
     }
 }
 
-// The lines of a P that are not written yet, as many as fit. Its segments are copied once.
+// The lines of a P that are not written yet, as many as fit. Its segments are copied once, and its stream is gone along once.
 fn print(
     tracker: RegionTracker,
     remapper: Remapper,
@@ -216,27 +235,24 @@ fn print(
     let n = remapper.copy_segments(&mut segments);
     let head = tracker.head;
     if progress.from > 0 {
-        return print_mappings(next, words, &segments, n, head, out, progress);
+        let r = print_mappings(next, words, &segments, n, head, out, progress);
+        return r.progress;
     }
     if !has_room(out.len(), progress.at, ANSWER_LEN) {
         let mut p = progress;
         p.full = true;
         return p;
     }
-    // the mappings come first, behind the answer's line: when all are written, it is known how many they are
+    // the mappings come first, behind the answer's line: then it is known how many they are
     let mut p = progress;
     p.at += ANSWER_LEN;
     p.lines += 1;
     p.from = 1;
     let r = print_mappings(next, words, &segments, n, head, out, p);
-    if r.full {
-        let many = count(next, words, &segments, n, head);
-        put_answer(out, progress.at, Answer::Accepted(many as u64));
-        return r;
-    }
-    let many = r.lines - p.lines;
+    let done = r.progress;
+    let many = done.lines - p.lines + r.left;
     put_answer(out, progress.at, Answer::Accepted(many as u64));
-    r
+    done
 }
 
 // Is there something to do, and room that was not tried?

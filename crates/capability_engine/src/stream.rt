@@ -304,13 +304,19 @@ pub(crate) fn start(
     }
 }
 
-// The number of mappings.
-pub(crate) fn count(next: &[usize], words: &[u64], segments: &[u64], n: usize, head: usize) -> usize
+// The number of mappings from a cursor on.
+pub(crate) fn count(
+    from: RemapCursor,
+    next: &[usize],
+    words: &[u64],
+    segments: &[u64],
+    n: usize,
+) -> usize
     requires { ⌜ Table (now words) (now segments) n ⌝ }
-    requires { ⌜ Whole (now next) (now words) head ⌝ }
-    ensures { λ k. ⌜ k ≡ length (stream (storedAt (now (next .entry)) (now (words .entry)) head) (segmentsFrom (now (segments .entry)) 0 n)) ⌝ }
+    requires { ⌜ Ready (now next) (now words) (now segments) n from ⌝ }
+    ensures { λ k. ⌜ k ≡ length (remaining (now (next .entry)) (now (words .entry)) (now (segments .entry)) n from) ⌝ }
 {
-    let mut c = start(next, words, segments, n, head);
+    let mut c = from;
     let mut k: usize = 0;
     loop {
         let s = next_mapping(c, next, words, segments, n);

@@ -1,9 +1,11 @@
 use native.Mathlib.Omega.{arith}
 use Prim.Native.Nat.{_+_, _≤_}
+use mathlib.Core.Path.{refl}
 use lib.Dec.{lit≤}
 use lib.ListN.{length}
 use Rattle.columns.proofs.Room.{room, no-room}
-use Rattle.capability_engine.proofs.ScriptPrints.{print-rest, print-none, print-many, print-all}
+use Rattle.capability_engine.proofs.StreamStarts.{stream-most}
+use Rattle.capability_engine.proofs.ScriptPrints.{print-rest, print-none, print-all}
 use borrow.Author.Needs.{needs}
 use Rattle.capability_engine.proofs.script.print.Statement.{statement}
 use Rattle.capability_engine.proofs.script.print.Tie as tie
@@ -24,7 +26,7 @@ same-length : tie.Need-same-length
 same-length c = search needs
 
 returns : tie.Need-returns
-returns c = λ d s. print-rest _ _ _ _ d s _ _ _ (c .before .before .before .before .before .before .before .before .copy-segments .ensures _ (s .held)) _ _ _ _ (c .before .before .before .before .before .if1 .taken) (c .before .before .print-mappings .ensures)
+returns c = λ d s. print-rest _ _ _ _ d s _ _ _ (c .before .before .before .before .before .before .before .before .before .copy-segments .ensures _ (s .held)) _ _ _ _ (c .before .before .before .before .before .before .if1 .taken) (c .before .before .before .print-mappings .ensures .0)
 
 has-room-requires : tie.Need-has-room-requires
 has-room-requires c κs = search needs
@@ -44,11 +46,11 @@ slice-aggregate-print-mappings-2 c = search needs
 print-mappings-requires-2 : tie.Need-print-mappings-requires-2
 print-mappings-requires-2 c κs = (c .before .before .before .before .before .before .before .before .before .before .before .before .before .before .pre .0 .1 .table _ _ _ (lit≤ tt) (c .before .before .before .before .before .before .before .before .before .copy-segments .ensures _ (c .before .before .before .before .before .before .before .before .before .before .before .before .before .before .pre .0 .1 .held)), (c .before .before .before .before .before .before .before .before .before .before .before .before .before .before .pre .0 .1 .whole, (omega arith, c .before .before .before .before .before .before .before .before .before .before .before .before .before .before .pre .1 .0, omega (arith, c .before .before .before .before .before .before .before .before .before .before .before .before .before .before .pre .1 .1))))
 
-slice-aggregate-count : tie.Need-slice-aggregate-count
-slice-aggregate-count c = search needs
+sub-many : tie.Need-sub-many
+sub-many c = search needs
 
-count-requires : tie.Need-count-requires
-count-requires c κs = (c .before .before .before .before .before .before .before .before .before .before .before .before .before .before .before .before .before .before .before .pre .0 .1 .table _ _ _ (lit≤ tt) (c .before .before .before .before .before .before .before .before .before .before .before .before .before .before .copy-segments .ensures _ (c .before .before .before .before .before .before .before .before .before .before .before .before .before .before .before .before .before .before .before .pre .0 .1 .held)), c .before .before .before .before .before .before .before .before .before .before .before .before .before .before .before .before .before .before .before .pre .0 .1 .whole)
+add-many : tie.Need-add-many
+add-many c = omega (arith, c .before .before .before .before .before .before .print-mappings2 .ensures .1 refl, stream-most _ _ _ _ _ (c .before .before .before .before .before .before .before .before .before .before .before .before .before .before .before .before .before .before .before .before .before .pre .0 .1 .table _ _ _ (lit≤ tt) (c .before .before .before .before .before .before .before .before .before .before .before .before .before .before .before .before .copy-segments .ensures _ (c .before .before .before .before .before .before .before .before .before .before .before .before .before .before .before .before .before .before .before .before .before .pre .0 .1 .held))) (c .before .before .before .before .before .before .before .before .before .before .before .before .before .before .before .before .before .before .before .before .before .pre .0 .1 .whole))
 
 put-answer-requires : tie.Need-put-answer-requires
 put-answer-requires c κs = search needs
@@ -57,19 +59,7 @@ same-length-2 : tie.Need-same-length-2
 same-length-2 c = search needs
 
 returns-3 : tie.Need-returns-3
-returns-3 c = λ d s. print-all _ _ _ _ d s _ _ _ (c .before .before .before .before .before .before .before .before .before .before .before .before .before .before .before .before .before .before .before .copy-segments .ensures _ (s .held)) _ _ (c .before .before .before .before .before .before .before .before .before .before .before .before .before .before .before .before .if1 .left) _ _ (c .before .before .before .before .before .before .before .before .before .print-mappings2 .ensures) _ _ _ (c .before .before .before .before .before .before .before .before .before .before .before .before .before .before .before .before .before .before .before .before .before .before .before .before .pre .1 .1) (room _ _ 25 _ (c .before .before .before .before .before .before .before .before .before .before .before .before .before .before .before .has-room .ensures) (c .before .before .before .before .before .before .before .before .before .before .before .before .before .before .if2 .left)) (c .before .before .before .before .count .ensures) (c .before .before .put-answer .ensures)
-
-sub-many : tie.Need-sub-many
-sub-many c = search needs
-
-put-answer-requires-2 : tie.Need-put-answer-requires-2
-put-answer-requires-2 c κs = search needs
-
-same-length-3 : tie.Need-same-length-3
-same-length-3 c = search needs
-
-returns-4 : tie.Need-returns-4
-returns-4 c = λ d s. print-all _ _ _ _ d s _ _ _ (c .before .before .before .before .before .before .before .before .before .before .before .before .before .before .before .before .before .before .before .copy-segments .ensures _ (s .held)) _ _ (c .before .before .before .before .before .before .before .before .before .before .before .before .before .before .before .before .if1 .left) _ _ (c .before .before .before .before .before .before .before .before .before .print-mappings2 .ensures) _ _ _ (c .before .before .before .before .before .before .before .before .before .before .before .before .before .before .before .before .before .before .before .before .before .before .before .before .pre .1 .1) (room _ _ 25 _ (c .before .before .before .before .before .before .before .before .before .before .before .before .before .before .before .has-room .ensures) (c .before .before .before .before .before .before .before .before .before .before .before .before .before .before .if2 .left)) (print-many _ _ _ _ d s _ _ _ (c .before .before .before .before .before .before .before .before .before .before .before .before .before .before .before .before .before .before .before .copy-segments .ensures _ (s .held)) _ _ (c .before .before .before .before .before .before .before .before .before .before .before .before .before .before .before .before .if1 .left) _ _ (c .before .before .before .before .before .before .before .before .before .print-mappings2 .ensures) (c .before .before .before .before .before .before .if3 .left)) (c .before .before .put-answer2 .ensures)
+returns-3 c = λ d s. print-all _ _ _ _ d s _ _ _ (c .before .before .before .before .before .before .before .before .before .before .before .before .before .before .before .before .before .before .before .before .copy-segments .ensures _ (s .held)) _ _ (c .before .before .before .before .before .before .before .before .before .before .before .before .before .before .before .before .before .if1 .left) _ _ (c .before .before .before .before .before .before .before .before .before .before .print-mappings2 .ensures .0) _ _ _ (c .before .before .before .before .before .before .before .before .before .before .before .before .before .before .before .before .before .before .before .before .before .before .before .before .before .pre .1 .1) (room _ _ 25 _ (c .before .before .before .before .before .before .before .before .before .before .before .before .before .before .before .before .has-room .ensures) (c .before .before .before .before .before .before .before .before .before .before .before .before .before .before .before .if2 .left)) (omega (arith, c .before .before .before .before .before .before .before .before .before .before .print-mappings2 .ensures .1 refl)) (c .before .before .put-answer .ensures)
 
 pub print-spec : {M : Type 1} → statement M
 print-spec =
@@ -87,12 +77,8 @@ print-spec =
     add-p-2
     slice-aggregate-print-mappings-2
     print-mappings-requires-2
-    slice-aggregate-count
-    count-requires
+    sub-many
+    add-many
     put-answer-requires
     same-length-2
-    returns-3
-    sub-many
-    put-answer-requires-2
-    same-length-3
-    returns-4)
+    returns-3)

@@ -10,17 +10,14 @@ use Rattle.capability_engine.proofs.stream.count.Statement.{statement}
 use Rattle.capability_engine.proofs.stream.count.Tie as tie
 
 abbrev Inv-loop : tie.InvT-loop
-Inv-loop next words segments n head c₀ k₀ c k =
+Inv-loop next words segments n c₀ k₀ c k =
     Ready next words segments n c × (k + length (remaining next words segments n c) ≡ length (remaining next words segments n c₀))
 
 abbrev μ-loop : tie.MeasureT-loop
-μ-loop next words segments n head c₀ k₀ c k = length (remaining next words segments n c)
-
-start-requires : tie.Need-start-requires Inv-loop μ-loop
-start-requires c κs = search needs
+μ-loop next words segments n c₀ k₀ c k = length (remaining next words segments n c)
 
 loop-holds : tie.Need-loop-holds Inv-loop μ-loop
-loop-holds c = (c .start .ensures .0, omega arith)
+loop-holds c = (c .before .before .before .pre .1, omega arith)
 
 next-mapping-requires : tie.Need-next-mapping-requires Inv-loop μ-loop
 next-mapping-requires c κs = search needs
@@ -32,16 +29,16 @@ enum-told : tie.Need-enum-told Inv-loop μ-loop
 enum-told c = search needs
 
 returns : tie.Need-returns Inv-loop μ-loop
-returns c = omega (arith, ap length (told-done (c .before .before .before .before .before .before .before .before .args .next .now) (c .before .before .before .before .before .before .before .before .args .words .now) (c .before .before .before .before .before .before .before .before .args .segments .now) (c .before .before .before .before .before .before .before .before .args .n) (c .before .before .before .loop .c) (c .before .before .next-mapping .result) (c .before .before .next-mapping .ensures) (c .enum-told .given .1)), c .before .before .before .loop .inv .1, ap length (c .before .before .before .before .start .ensures .1 .0))
+returns c = omega (arith, ap length (told-done (c .before .before .before .before .before .before .before .args .next .now) (c .before .before .before .before .before .before .before .args .words .now) (c .before .before .before .before .before .before .before .args .segments .now) (c .before .before .before .before .before .before .before .args .n) (c .before .before .before .loop .c) (c .before .before .next-mapping .result) (c .before .before .next-mapping .ensures) (c .enum-told .given .1)), c .before .before .before .loop .inv .1)
 
 add-k : tie.Need-add-k Inv-loop μ-loop
-add-k c = omega (arith, c .before .before .before .before .loop .inv .1, remaining-most (c .before .before .before .before .before .before .before .before .before .args .next .now) (c .before .before .before .before .before .before .before .before .before .args .words .now) (c .before .before .before .before .before .before .before .before .before .args .segments .now) (c .before .before .before .before .before .before .before .before .before .args .n) (c .before .before .before .before .before .start .result) (c .before .before .before .before .before .before .before .before .before .pre .0) (c .before .before .before .before .before .start .ensures .0))
+add-k c = omega (arith, c .before .before .before .before .loop .inv .1, remaining-most (c .before .before .before .before .before .before .before .before .args .next .now) (c .before .before .before .before .before .before .before .before .args .words .now) (c .before .before .before .before .before .before .before .before .args .segments .now) (c .before .before .before .before .before .before .before .before .args .n) (c .before .before .before .before .before .before .before .before .args .from) (c .before .before .before .before .before .before .before .before .pre .0) (c .before .before .before .before .before .before .before .before .pre .1))
 
 loop-less : tie.Need-loop-less Inv-loop μ-loop
-loop-less c = omega (arith, ap length (told-found (c .before .before .before .before .before .before .before .before .before .args .next .now) (c .before .before .before .before .before .before .before .before .before .args .words .now) (c .before .before .before .before .before .before .before .before .before .args .segments .now) (c .before .before .before .before .before .before .before .before .before .args .n) (c .before .before .before .before .loop .c) (c .before .before .before .next-mapping .result) (c .before .before .before .next-mapping .ensures) _ _ (c .before .s .given .1) .0))
+loop-less c = omega (arith, ap length (told-found (c .before .before .before .before .before .before .before .before .args .next .now) (c .before .before .before .before .before .before .before .before .args .words .now) (c .before .before .before .before .before .before .before .before .args .segments .now) (c .before .before .before .before .before .before .before .before .args .n) (c .before .before .before .before .loop .c) (c .before .before .before .next-mapping .result) (c .before .before .before .next-mapping .ensures) _ _ (c .before .s .given .1) .0))
 
 loop-again : tie.Need-loop-again Inv-loop μ-loop
-loop-again c = let v = told-found (c .before .before .before .before .before .before .before .before .before .args .next .now) (c .before .before .before .before .before .before .before .before .before .args .words .now) (c .before .before .before .before .before .before .before .before .before .args .segments .now) (c .before .before .before .before .before .before .before .before .before .args .n) (c .before .before .before .before .loop .c) (c .before .before .before .next-mapping .result) (c .before .before .before .next-mapping .ensures) _ _ (c .before .s .given .1) in (v .1, omega (arith, ap length (v .0), c .before .before .before .before .loop .inv .1))
+loop-again c = let v = told-found (c .before .before .before .before .before .before .before .before .args .next .now) (c .before .before .before .before .before .before .before .before .args .words .now) (c .before .before .before .before .before .before .before .before .args .segments .now) (c .before .before .before .before .before .before .before .before .args .n) (c .before .before .before .before .loop .c) (c .before .before .before .next-mapping .result) (c .before .before .before .next-mapping .ensures) _ _ (c .before .s .given .1) in (v .1, omega (arith, ap length (v .0), c .before .before .before .before .loop .inv .1))
 
 pub count-spec : {M : Type 1} → statement M
 count-spec =
@@ -49,7 +46,6 @@ count-spec =
     (tie.spec
     Inv-loop
     μ-loop
-    start-requires
     loop-holds
     next-mapping-requires
     enum-known-s
