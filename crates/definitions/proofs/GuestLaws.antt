@@ -9,13 +9,12 @@ use lib.ListN.{length}
 use native.Mathlib.Omega.{arith}
 use native.Mathlib.Nat.{mul-le-mul-left, mul-le-mul-right}
 use borrow.Author.Tests.{ltb-true, ltb-false, lt-ltb, eqb-true, eq-eqb, ne-eqb}
-use Rattle.definitions.specs.Tests.{_<?_, _≤?_, _=?_, if_then_else_, inside, bit, guest, hostUp, guestUp, any, count, keep, each}
-use Rattle.definitions.specs.Segments.{segment, hostEnd, spanEnd, place, front, rest, hostInside, hostWhole, hostTail, hostCut, overlaps, touched, spanInside, spanLeft, spanHalf, placeAll, spanCut}
-use Rattle.definitions.specs.declared.addr.HostAddr.{HostAddr}
+use Rattle.definitions.specs.Tests.{_<?_, _≤?_, _=?_, if_then_else_, inside, bit, guest, hostUp, guestUp, any, count, keep}
+use Rattle.definitions.specs.Segments.{segment, spanEnd, place, front, rest, overlaps, touched, spanInside, placeAll}
 use Rattle.definitions.specs.declared.addr.GuestAddr.{GuestAddr}
 use Rattle.definitions.specs.declared.remapper.Segment.{Segment}
 use Rattle.definitions.proofs.Bools.{Where, inn, low, high, where?, in-true, count-append, both, and-true, and-false}
-use Rattle.definitions.proofs.SegmentLaws.{Good, AllGood, Meeting, apart, whole, back, fore, meeting, Single, Singles, singles, single-end, inside as spans-inside}
+use Rattle.definitions.proofs.SegmentLaws.{Good, AllGood, Single, Singles, singles, inside as spans-inside}
 
 -- does the segment's guest span hold y? and has it repeat 1, or another?
 unfoldable pub reaches : GuestAddr → Segment → Bool
@@ -31,7 +30,7 @@ often y s = reaches y s && not (s .repeat =? 1)
 abbrev pub Unshared : List Segment → Type 0
 Unshared ss = (y : GuestAddr) → 1 ≤ count (once y) ss → count (reaches y) ss ≤ 1
 
-once-often : (y : GuestAddr) (ss : List Segment) → count (reaches y) ss ≡ count (once y) ss + count (often y) ss
+pub once-often : (y : GuestAddr) (ss : List Segment) → count (reaches y) ss ≡ count (once y) ss + count (often y) ss
 unfolding once often
 once-often y [] = refl
 once-often y (s ∷ ss) = go (reaches y s) refl (s .repeat =? 1) refl (once-often y ss)
@@ -192,7 +191,7 @@ unfolding placeAll
 count-placeAll p [] ts = omega arith
 count-placeAll p (s ∷ ss) ts = omega (arith, count-placeAll p ss (place s ts), count-place p s ts)
 
-within-all : (ss us vs : List Segment) → ((p : Segment → Bool) → count p vs ≡ count p us) → Within ss us → Within ss vs
+pub within-all : (ss us vs : List Segment) → ((p : Segment → Bool) → count p vs ≡ count p us) → Within ss us → Within ss vs
 within-all ss us vs e w = record {
   ones = λ y. omega (arith, e (once y), w .ones y);
   more = λ y. omega (arith, e (often y), w .more y);
@@ -200,71 +199,6 @@ within-all ss us vs e w = record {
 
 within-refl : (ss : List Segment) → Within ss ss
 within-refl ss = record { ones = λ y. omega arith; more = λ y. omega arith }
-
--- `unmap_range`
-
-inner : (a e : HostAddr) (s : Segment) → Good s → a .0 ≤ e .0 → hostInside a e s ≡ true
-    → Within (s ∷ []) (front (a .0 - s .hpa .0) s ∷ rest (e .0 - s .hpa .0) s ∷ [])
-unfolding hostInside hostEnd hostUp
-inner a e s g q d =
-    let f = both (s .hpa .0 <? a .0) (e .0 <? s .hpa .0 + s .size) d in
-    let j : e .0 < s .hpa .0 + s .size = ltb-true (e .0) (s .hpa .0 + s .size) (f .1) in
-    within-both s g (a .0 - s .hpa .0) (e .0 - s .hpa .0) (omega arith) (omega arith)
-
-tail : (a : HostAddr) (s : Segment) → Good s → hostTail a s ≡ true → Within (s ∷ []) (front (a .0 - s .hpa .0) s ∷ [])
-unfolding hostTail hostEnd hostUp
-tail a s g d =
-    let f = both (s .hpa .0 <? a .0) (a .0 <? s .hpa .0 + s .size) d in
-    let j : a .0 < s .hpa .0 + s .size = ltb-true (a .0) (s .hpa .0 + s .size) (f .1) in
-    within-front s g (a .0 - s .hpa .0) (omega arith)
-
-pub hostCut-within : (a e : HostAddr) (ss : List Segment) → a .0 ≤ e .0 → AllGood ss → Within ss (hostCut a e ss)
-unfolding hostCut
-hostCut-within a e [] q h = within-none
-hostCut-within a e (s ∷ ss) q h =
-    go (hostInside a e s) refl (hostWhole a e s) refl (hostTail a s) refl (hostCut-within a e ss q (h .1))
-  where
-    go : (t : Bool) → hostInside a e s ≡ t → (u : Bool) → hostWhole a e s ≡ u → (v : Bool) → hostTail a s ≡ v
-        → Within ss (hostCut a e ss) → Within (s ∷ ss) (hostCut a e (s ∷ ss))
-    go true d u f v k ih = simp d (within-append (s ∷ []) _ ss ss (inner a e s (h .0) q d) (within-refl ss))
-    go false d true f v k ih = simp (d, f) (within-append (s ∷ []) [] ss _ (within-gone s) ih)
-    go false d false f true k ih = simp (d, f, k) (within-append (s ∷ []) (front (a .0 - s .hpa .0) s ∷ []) ss _ (tail a s (h .0) k) ih)
-    go false d false f false k ih = simp (d, f, k) (within-append (s ∷ []) (s ∷ []) ss _ (within-same s) ih)
-
--- `unmap_gpa_range`
-
-left-within : (a e : GuestAddr) (s : Segment) → a .0 ≤ e .0 → Good s → Single a e s → Within (s ∷ []) (spanHalf a e s ++ spanLeft a e s)
-unfolding spanHalf spanLeft
-left-within a e s q g o = go (spanInside a e s) refl (meeting a e s)
-  where
-    go : (t : Bool) → spanInside a e s ≡ t → Meeting a e s → Within (s ∷ []) (spanHalf a e s ++ spanLeft a e s)
-    go true d m =
-        let i = spans-inside a e s q d in
-        let end = single-end s (o (i .touches) (i .partly)) in
-        simp (d, i .touches, i .partly, lt-ltb (s .gpa .0) (a .0) (i .from)) (
-        within-all (s ∷ []) (front (a .0 - s .gpa .0) s ∷ rest (e .0 - s .gpa .0) s ∷ []) _ (λ p. omega arith)
-        (within-both s g (a .0 - s .gpa .0) (e .0 - s .gpa .0) (omega arith) (omega arith)))
-    go false d (apart f) = simp (d, f) (within-same s)
-    go false d (whole f k) = simp (d, f, k) (within-gone s)
-    go false d (back f k i j l) =
-        let end = single-end s (o f k) in simp (d, f, k, i) (within-front s g (a .0 - s .gpa .0) (omega arith))
-    go false d (fore f k i j l) =
-        let end = single-end s (o f k) in simp (d, f, k, i) (within-rest s g (e .0 - s .gpa .0) (omega arith))
-
-pub spanCut-within : (a e : GuestAddr) (ss : List Segment) → a .0 ≤ e .0 → Singles a e ss → AllGood ss → Within ss (spanCut a e ss)
-unfolding spanCut
-spanCut-within a e ss q o g =
-    within-all ss (each (spanHalf a e) ss ++ each (spanLeft a e) ss) _
-    (λ p. count-placeAll p (each (spanHalf a e) ss) (each (spanLeft a e) ss) ∙ sym (count-append p (each (spanHalf a e) ss) (each (spanLeft a e) ss)))
-    (go ss o g)
-  where
-    go : (ss : List Segment) → Singles a e ss → AllGood ss → Within ss (each (spanHalf a e) ss ++ each (spanLeft a e) ss)
-    go [] o g = within-none
-    go (s ∷ ss) o g =
-        let p = singles a e s ss o in
-        within-all (s ∷ ss) ((spanHalf a e s ++ spanLeft a e s) ++ (each (spanHalf a e) ss ++ each (spanLeft a e) ss)) _
-        (λ q. simp count-append (omega arith))
-        (within-append (s ∷ []) (spanHalf a e s ++ spanLeft a e s) ss _ (left-within a e s q (g .0) (p .0)) (go ss (p .1) (g .1)))
 
 -- A map
 
@@ -312,10 +246,16 @@ length-keep p (x ∷ xs) = go (p x) refl (length-keep p xs)
     go true d ih = simp d (omega arith)
     go false d ih = simp d (omega arith)
 
--- a span is not empty
-pub span-full : (s : Segment) → Good s → s .gpa .0 < spanEnd s .0
+-- a span is as long as the segment at least, and not empty
+pub size-within : (s : Segment) → Good s → s .gpa .0 + s .size ≤ spanEnd s .0
 unfolding spanEnd guestUp
-span-full s g = let m : s .size * 1 ≤ s .size * s .repeat = mul-le-mul-left (s .size) (g .times) in omega arith
+size-within s g = let m : s .size * 1 ≤ s .size * s .repeat = mul-le-mul-left (s .size) (g .times) in omega arith
+
+pub size-reaches : (s : Segment) → Good s → {n : ℕ} → n < s .gpa .0 + s .size → n < spanEnd s .0
+size-reaches s g l = omega (arith, size-within s g)
+
+pub span-full : (s : Segment) → Good s → s .gpa .0 < spanEnd s .0
+span-full s g = size-reaches s g (omega (arith, g .some))
 
 module _ (a e : GuestAddr) (l : a .0 < e .0) where
   -- a segment that is touched reaches an address of the range

@@ -12,10 +12,10 @@ use Rattle.definitions.specs.Tests.{_<?_, _≤?_, _=?_, inside, host, gu
 use Rattle.definitions.specs.Rights.{named}
 use Rattle.definitions.specs.Values.{nothing, held, raise, lower, rightsOf}
 use Rattle.definitions.specs.Regions.{region, regions, within, meets, same, joins, join, joined, splits, cut, freed}
-use Rattle.definitions.specs.Segments.{segment, hostEnd, spanEnd, inOrder, place, overlaps, isIdentity, mapped, front, rest, hostInside, hostWhole, hostTail, hostCut, unmapped, touched, spanWhole, spanInside, spanLeft, spanHalf, placeAll, spanCut, unmappedGpa}
+use Rattle.definitions.specs.Segments.{segment, hostEnd, spanEnd, inOrder, place, overlaps, isIdentity, mapped, front, rest, cutOut, hostTouched, hostParts, unmapped, touched, spanWhole, spanInside, spanParts, placeAll, unmappedGpa}
 use Rattle.definitions.specs.Stream.{sharedPart, segmentYields, identity, merge}
 use Rattle.definitions.specs.Reckoning.{Compartment, empty, compartmentOf, withSegments}
-use Rattle.definitions.specs.Questions.{ask, accepted, numberOf, valueOf, everyNamed, begun, lastEnd, cutsFit, canLower, frontCut, ranged, onOverlaps, onMap, onUnmap, onUnmapGpa}
+use Rattle.definitions.specs.Questions.{ask, numberOf, valueOf, everyNamed, begun, lastEnd, cutsFit, canLower, ranged, onOverlaps, onMap, onUnmap, onUnmapGpa}
 use Rattle.definitions.specs.Calls.{compartment, after, afterFrom, next, start, streamOf}
 use Rattle.definitions.specs.Layouts.{Row, row, sameTable, sameList, sameStream, holds, add, singleAdds, singleRows, singleMappings, two, crowdedRow, smallRows, rows, stored as storedOne}
 use Rattle.definitions.specs.declared.addr.HostAddr.{HostAddr}
@@ -269,7 +269,7 @@ fit-all (c ∷ cs) h = let p = both (fitsCall c) (all fitsCall cs) h in (fits-ca
 
 -- all that the rows compute with, named once
 opened : Unit {0}
-unfolding inside host guest hostUp guestUp fits named nothing held raise lower rightsOf region within meets same joins join joined splits cut freed segment hostEnd spanEnd inOrder place overlaps isIdentity mapped front rest hostInside hostWhole hostTail hostCut unmapped touched spanWhole spanInside spanLeft spanHalf placeAll spanCut unmappedGpa empty compartmentOf withSegments ask everyNamed begun lastEnd cutsFit canLower frontCut ranged onOverlaps onMap onUnmap onUnmapGpa row sameTable sameList sameStream two storedOne smallRows sharedPart segmentYields identity merge below above without leftOver streamOn gap fill change peak added removed hole gaps noTable canRaiseOn addChangeOn newRecordsOn removeChangeOn addOn removeOn answerOn leaves startOn usedOn asksOn nextOn afterOn holdsAfter fitsCall
+unfolding inside host guest hostUp guestUp fits named nothing held raise lower rightsOf region within meets same joins join joined splits cut freed segment hostEnd spanEnd inOrder place overlaps isIdentity mapped front rest cutOut hostTouched hostParts unmapped touched spanWhole spanInside spanParts placeAll unmappedGpa empty compartmentOf withSegments ask everyNamed begun lastEnd cutsFit canLower ranged onOverlaps onMap onUnmap onUnmapGpa row sameTable sameList sameStream two storedOne smallRows sharedPart segmentYields identity merge below above without leftOver streamOn gap fill change peak added removed hole gaps noTable canRaiseOn addChangeOn newRecordsOn removeChangeOn addOn removeOn answerOn leaves startOn usedOn asksOn nextOn afterOn holdsAfter fitsCall
 opened = tt
 
 -- a row that fits, and holds as computed on tables

@@ -12,10 +12,14 @@ pub mod UncoveredLaws
 pub mod StreamLaws
 pub mod SegmentLaws
 pub mod GuestLaws
+pub mod CutLaws
+pub mod WalkLaws
+pub mod LeftLaws
 pub mod Passed
 pub mod Reckoned
 pub mod Stored
 pub mod Sixteen
+pub mod Unmaps
 pub mod Pool
 pub mod Demand
 pub mod Tables

@@ -5,11 +5,11 @@ use mathlib.Core.Bool.{Bool, true, false, true≢false, not, _&&_, _||_}
 use mathlib.Core.List.{List, [], _∷_}
 use lib.ListN.{length}
 use borrow.Author.Tests.{ltb-true, leb-true}
-use Rattle.definitions.specs.Tests.{_<?_, _≤?_, _=?_, if_then_else_, fits, hostUp, guestUp, any, keep}
+use Rattle.definitions.specs.Tests.{_<?_, _≤?_, _=?_, if_then_else_, fits, guestUp, any, keep}
 use Rattle.definitions.specs.Regions.{regions, newRecords}
-use Rattle.definitions.specs.Segments.{segment, hostInside, overlaps, isIdentity, unmapped, touched, spanInside, unmappedGpa, inOrder}
+use Rattle.definitions.specs.Segments.{segment, overlaps, isIdentity, unmapped, touched, spanInside, unmappedGpa}
 use Rattle.definitions.specs.Reckoning.{Compartment}
-use Rattle.definitions.specs.Questions.{ask, accepted, canRaise, cutsFit, begun, lastEnd, canLower, frontCut, ranged, onAdd, onRemove, onMap, onUnmap, onUnmapGpa}
+use Rattle.definitions.specs.Questions.{ask, accepted, canRaise, cutsFit, begun, lastEnd, canLower, ranged, onAdd, onRemove, onMap, onUnmap, onUnmapGpa}
 use Rattle.definitions.specs.declared.addr.HostAddr.{HostAddr}
 use Rattle.definitions.specs.declared.addr.GuestAddr.{GuestAddr}
 use Rattle.definitions.specs.declared.answer.Refusal.{Refusal}
@@ -115,16 +115,9 @@ map-passed c h g n t k =
           ltb-true (length (c .segments)) 64 (passed _ _ last .0 .0);
     }
 
--- a question asked only where something else is so
-where-so : (b t : Bool) → (not b || t) ≡ true → b ≡ true → t ≡ true
-where-so true t h d = h
-where-so false t h d = absurd (true≢false (sym d))
-
 pub record UnmapPassed (c : Compartment) (h : HostAddr) (n : ℕ) : Type 0 where
   pub fit : h .0 + n < 2 ^ 64
-  pub slot : any (hostInside h (hostUp h n)) (c .segments) ≡ true → length (c .segments) < 64
-  pub front : any (frontCut h (hostUp h n)) (c .segments) ≡ false
-  pub order : inOrder (unmapped h n (c .segments)) ≡ true
+  pub slot : length (unmapped h n (c .segments)) ≤ 64
 
 pub unmap-passed : (c : Compartment) (h : HostAddr) (n : ℕ) → accepted (onUnmap c h n) ≡ true → UnmapPassed c h n
 unfolding onUnmap fits
@@ -132,11 +125,7 @@ unmap-passed c h n k =
     let p = passed _ _ k .0 in
     record {
       fit = ltb-true (h .0 + n) (2 ^ 64) (p .0);
-      slot = λ d.
-          ltb-true (length (c .segments)) 64
-          (where-so (any (hostInside h (hostUp h n)) (c .segments)) (length (c .segments) <? 64) (p .1 .0) d);
-      front = not-true (any (frontCut h (hostUp h n)) (c .segments)) (p .1 .1 .0);
-      order = p .1 .1 .1 .0;
+      slot = leb-true (length (unmapped h n (c .segments))) 64 (p .1 .0);
     }
 
 -- not asked with no segment or of size 0
@@ -144,8 +133,7 @@ pub record UnmapGpaPassed (c : Compartment) (g : GuestAddr) (n : ℕ) : Type 0 w
   pub fit : g .0 + n < 2 ^ 64
   pub single : Singles g (guestUp g n) (c .segments)
   pub alone : (not (any (spanInside g (guestUp g n)) (c .segments)) || (length (keep (touched g (guestUp g n)) (c .segments)) =? 1)) ≡ true
-  pub slot : any (spanInside g (guestUp g n)) (c .segments) ≡ true → length (c .segments) < 64
-  pub order : inOrder (unmappedGpa g n (c .segments)) ≡ true
+  pub slot : length (unmappedGpa g n (c .segments)) ≤ 64
 
 pub unmapGpa-passed : (c : Compartment) (g : GuestAddr) (n : ℕ) → accepted (onUnmapGpa c g n) ≡ true
     → ((length (c .segments) =? 0) || (n =? 0)) ≡ false → UnmapGpaPassed c g n
@@ -157,8 +145,5 @@ unmapGpa-passed c g n k d =
       fit = ltb-true (g .0 + n) (2 ^ 64) (p .0);
       single = p .1 .0;
       alone = p .1 .1 .0;
-      slot = λ d.
-          ltb-true (length (c .segments)) 64
-          (where-so (any (spanInside g (guestUp g n)) (c .segments)) (length (c .segments) <? 64) (p .1 .1 .1 .0) d);
-      order = p .1 .1 .1 .1 .0;
+      slot = leb-true (length (unmappedGpa g n (c .segments))) 64 (p .1 .1 .1 .0);
     }

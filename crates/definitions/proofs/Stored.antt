@@ -8,11 +8,11 @@ use lib.ListN.{length}
 use native.Mathlib.Omega.{arith}
 use native.Mathlib.Nat.{mul-le-mul-left}
 use borrow.Author.Tests.{ltb-true, eqb-true, eqb-false, ne-eqb}
-use Rattle.definitions.specs.Tests.{_<?_, _≤?_, _=?_, if_then_else_, bit, host, hostUp, guestUp, all, any}
+use Rattle.definitions.specs.Tests.{_<?_, _≤?_, _=?_, if_then_else_, host, hostUp, guestUp, all, each}
 use Rattle.definitions.specs.Rights.{READ, WRITE, EXEC, SUPER, UNCACHEABLE, named}
 use Rattle.definitions.specs.Values.{nothing, raise, lower, changedIn}
 use Rattle.definitions.specs.Regions.{addressesFrom, addresses}
-use Rattle.definitions.specs.Segments.{segment, spanEnd, isIdentity, mapped, hostInside, hostCut, unmapped, spanInside, placeAll, spanCut, unmappedGpa, inOrder}
+use Rattle.definitions.specs.Segments.{segment, spanEnd, isIdentity, mapped, hostParts, unmapped, spanParts, placeAll, unmappedGpa, inOrder}
 use Rattle.definitions.specs.Reckoning.{Compartment, empty, withValues, withSegments, reckon}
 use Rattle.definitions.specs.Questions.{accepted, everyNamed, canRaise, onUnmapGpa}
 use Rattle.definitions.specs.Calls.{State, start, compartment, answerIn, next, after}
@@ -25,9 +25,10 @@ use Rattle.definitions.specs.declared.call.Call.the-variants.{Add, Remov
 use Rattle.definitions.proofs.Bools.{Where, inn, low, high, where?, both}
 use Rattle.definitions.proofs.Lists.{Blank}
 use Rattle.definitions.proofs.RegionsAre.{raised-blank, lowered-blank}
-use Rattle.definitions.proofs.SegmentLaws.{AllGood, place-good, length-place, place-order, hostCut-good, length-hostCut, spanCut-good, length-spanCut}
-use Rattle.definitions.proofs.GuestLaws.{Unshared, within-unshared, hostCut-within, spanCut-within, place-unshared, overlaps-untouched}
-use Rattle.definitions.proofs.Passed.{AddPassed, MapPassed, UnmapPassed, UnmapGpaPassed, add-passed, map-passed, unmap-passed, unmapGpa-passed}
+use Rattle.definitions.proofs.SegmentLaws.{AllGood, place-good, length-place, place-order}
+use Rattle.definitions.proofs.GuestLaws.{Unshared, within-unshared, place-unshared, overlaps-untouched}
+use Rattle.definitions.proofs.CutLaws.{EachParts, host-each, span-each, cut-good, cut-order, cut-within}
+use Rattle.definitions.proofs.Passed.{AddPassed, MapPassed, UnmapPassed, add-passed, map-passed, unmap-passed, unmapGpa-passed}
 use Rattle.definitions.proofs.Reckoned.{start-empty, always-next, always}
 
 -- holders and the four counts fit 16 bits, and the mark is one bit
@@ -196,49 +197,43 @@ module _ (n : ℕ) (c : Compartment) (s : Stored c) where
           (omega (arith, length-place (segment h g m t) (c .segments)))
           (place-unshared (segment h g m t) (c .segments) (overlaps-untouched g (m * t) (c .segments) some (p .apart)) (s .unshared)))
 
+  -- the list as it was
+  same-stored : Stored (withSegments c (c .segments))
+  same-stored = segments-stored (c .segments) (s .good) (s .order) (s .few) (s .unshared)
+
+  -- and cut
+  cut-stored : (f : Segment → List Segment) → EachParts f (c .segments) → length (placeAll (each f (c .segments)) []) ≤ 64
+      → Stored (withSegments c (placeAll (each f (c .segments)) []))
+  cut-stored f p l =
+      segments-stored _ (cut-good f (c .segments) (s .good) p) (cut-order f (c .segments)) l
+      (within-unshared (c .segments) _ (cut-within f (c .segments) (s .good) p) (s .unshared))
+
   unmap-stored : (k : ℕ) (h : HostAddr) (m : ℕ) → UnmapPassed c h m → Stored (reckon (Unmap k h m) c)
   unfolding reckon unmapped hostUp
-  unmap-stored k h m p =
-      segments-stored _ (hostCut-good h (hostUp h m) (c .segments) (omega arith) (s .good)) (p .order)
-      (go (any (hostInside h (hostUp h m)) (c .segments)) refl)
-      (within-unshared (c .segments) _ (hostCut-within h (hostUp h m) (c .segments) (omega arith) (s .good)) (s .unshared))
+  unmap-stored k h m p = go (m =? 0) refl
     where
-      go : (b : Bool) → any (hostInside h (hostUp h m)) (c .segments) ≡ b → length (hostCut h (hostUp h m) (c .segments)) ≤ 64
-      go true d = omega (arith, p .slot d, simp d at (length-hostCut h (hostUp h m) (c .segments)))
-      go false d = omega (arith, s .few, simp d at (length-hostCut h (hostUp h m) (c .segments)))
-
-  cut-stored : (g : GuestAddr) (m : ℕ) → (m =? 0) ≡ false → UnmapGpaPassed c g m → Stored (withSegments c (spanCut g (guestUp g m) (c .segments)))
-  unfolding unmappedGpa guestUp
-  cut-stored g m z p =
-      segments-stored _ (spanCut-good g (guestUp g m) (c .segments) (omega arith) (p .single) (s .good)) (simp z at (p .order))
-      (go (any (spanInside g (guestUp g m)) (c .segments)) refl)
-      (within-unshared (c .segments) _ (spanCut-within g (guestUp g m) (c .segments) (omega arith) (p .single) (s .good)) (s .unshared))
-    where
-      more : length (spanCut g (guestUp g m) (c .segments)) ≤ length (c .segments) + bit (any (spanInside g (guestUp g m)) (c .segments))
-      more = length-spanCut g (guestUp g m) (c .segments) (omega arith) (p .alone)
-
-      go : (b : Bool) → any (spanInside g (guestUp g m)) (c .segments) ≡ b → length (spanCut g (guestUp g m) (c .segments)) ≤ 64
-      go true d = omega (arith, p .slot d, simp d at more)
-      go false d = omega (arith, s .few, simp d at more)
-
-  -- no segment, none after
-  none-left : (g e : GuestAddr) (ss : List Segment) → length ss ≡ 0 → spanCut g e ss ≡ ss
-  unfolding spanCut placeAll
-  none-left g e [] z = refl
-  none-left g e (t ∷ ts) z = absurd (omega arith)
+      go : (b : Bool) → (m =? 0) ≡ b → Stored (reckon (Unmap k h m) c)
+      go true d = simp d same-stored
+      go false d =
+          simp d (cut-stored (hostParts h (hostUp h m)) (host-each h (hostUp h m) (c .segments) (omega arith)) (simp d at (p .slot)))
 
   unmapGpa-stored : (k : ℕ) (g : GuestAddr) (m : ℕ) → accepted (onUnmapGpa c g m) ≡ true → Stored (reckon (UnmapGpa k g m) c)
-  unfolding reckon unmappedGpa
+  unfolding reckon unmappedGpa guestUp placeAll
   unmapGpa-stored k g m h = go (m =? 0) refl (length (c .segments) =? 0) refl
     where
-      same : Stored (withSegments c (c .segments))
-      same = segments-stored (c .segments) (s .good) (s .order) (s .few) (s .unshared)
+      -- no segment, none after
+      none : (ss : List Segment) → length ss ≡ 0 → EachParts (spanParts g (guestUp g m)) ss × (length (placeAll (each (spanParts g (guestUp g m)) ss) []) ≤ 64)
+      none [] z = (tt, omega arith)
+      none (t ∷ ts) z = absurd (omega arith)
 
       go : (b : Bool) → (m =? 0) ≡ b → (t : Bool) → (length (c .segments) =? 0) ≡ t → Stored (reckon (UnmapGpa k g m) c)
-      go true d t f = simp d same
+      go true d t f = simp d same-stored
       go false d true f =
-          simp d (rw (none-left g (guestUp g m) (c .segments) (eqb-true (length (c .segments)) 0 f)) same)
-      go false d false f = simp d (cut-stored g m d (unmapGpa-passed c g m h (simp (d, f))))
+          let n = none (c .segments) (eqb-true (length (c .segments)) 0 f) in
+          simp d (cut-stored (spanParts g (guestUp g m)) (n .0) (n .1))
+      go false d false f =
+          let p = unmapGpa-passed c g m h (simp (d, f)) in
+          simp d (cut-stored (spanParts g (guestUp g m)) (span-each g (guestUp g m) (c .segments) (omega arith) (s .good) (p .single)) (simp d at (p .slot)))
 
 call-stored : (n : ℕ) (c : Compartment) (call : Call) → Stored c → accepted (answerIn n c call) ≡ true → Stored (reckon call c)
 unfolding answerIn reckon

@@ -1,5 +1,5 @@
--- Document 01, "Marked layouts (*)": the starred ones, as rows of one table, worked out anew where document 02, order 1,
--- asks for it.
+-- Document 01, "Marked layouts (*)": the starred ones, as rows of one table, worked out anew where document 02, orders 1 and
+-- 3, ask for it.
 use Prim.Native.Nat.{ℕ, zero, suc, _+_}
 use mathlib.Core.Bool.{Bool, true, false, _&&_}
 use mathlib.Core.List.{List, [], _∷_}
@@ -101,8 +101,9 @@ unfoldable pub crowdedRow : Row
 crowdedRow = row (singleAdds 0 1024) (add 0 2 1) 5 0 (singleRows 0 1024) [] (singleMappings 0 1024)
 
 -- the other starred layouts, and after the two that order 1 changed: an empty range inside a stored span, a span found behind
--- a segment of a higher guest address, an identity map, which is asked 11 too, and spans that only touch; at the end the
--- example of the script, and a segment inside another in host addresses
+-- a segment of a higher guest address, an identity map, which is asked 11 too, and spans that only touch; after the two that
+-- order 3 changed: a moved part beside an equal, two segments cut in two by one range, a repeated one cut by host address, and
+-- an empty host range; at the end the example of the script, and a segment inside another in host addresses
 unfoldable pub smallRows : List Row
 smallRows =
     row (add 0 10 1 ∷ []) (add 5 15 3) 0 1 ((0, 5, 1) ∷ (5, 10, 3) ∷ (10, 15, 3) ∷ []) []
@@ -120,11 +121,17 @@ smallRows =
     ∷ row (map 200 990 5 2 ∷ stored) (map 300 1010 5 1) 0 0 []
     ((100, 1000, 10, 1) ∷ (200, 990, 5, 2) ∷ (300, 1010, 5, 1) ∷ []) []
     ∷ row stored (unmap 103 2) 0 0 [] ((100, 1000, 3, 1) ∷ (105, 1005, 5, 1) ∷ []) []
-    ∷ row stored (unmap 95 10) 13 0 [] ((100, 1000, 10, 1) ∷ []) []
+    ∷ row stored (unmap 95 10) 0 0 [] ((105, 1005, 5, 1) ∷ []) []
     ∷ row stored (unmapGpa 1000 4) 0 0 [] ((104, 1004, 6, 1) ∷ []) []
     ∷ row (map 100 1000 10 2 ∷ []) (unmapGpa 1000 4) 15 0 [] ((100, 1000, 10, 2) ∷ []) []
-    ∷ row (map 100 1000 10 1 ∷ map 103 2000 2 1 ∷ []) (unmapGpa 1000 5) 14 0 []
-    ((100, 1000, 10, 1) ∷ (103, 2000, 2, 1) ∷ []) []
+    ∷ row (map 100 1000 10 1 ∷ map 103 2000 2 1 ∷ []) (unmapGpa 1000 5) 0 0 []
+    ((103, 2000, 2, 1) ∷ (105, 1005, 5, 1) ∷ []) []
+    ∷ row (map 100 1000 10 1 ∷ map 105 2000 2 1 ∷ []) (unmapGpa 1000 5) 0 0 []
+    ((105, 1005, 5, 1) ∷ (105, 2000, 2, 1) ∷ []) []
+    ∷ row (map 100 1000 10 1 ∷ map 102 2000 6 1 ∷ []) (unmap 104 2) 0 0 []
+    ((100, 1000, 4, 1) ∷ (102, 2000, 2, 1) ∷ (106, 1006, 4, 1) ∷ (106, 2004, 2, 1) ∷ []) []
+    ∷ row (map 100 1000 10 2 ∷ []) (unmap 103 2) 0 0 [] ((100, 1000, 3, 2) ∷ (105, 1005, 5, 2) ∷ []) []
+    ∷ row stored (unmap 103 0) 0 0 [] ((100, 1000, 10, 1) ∷ []) []
     ∷ row (add 0 30 3 ∷ []) (map 10 100 10 1) 0 0 ((0, 30, 3) ∷ []) ((10, 100, 10, 1) ∷ [])
     ((0, 0, 10, 1, 3) ∷ (10, 100, 10, 1, 3) ∷ (20, 20, 10, 1, 3) ∷ [])
     ∷ row (add 0 30 3 ∷ map 5 100 20 1 ∷ []) (map 10 200 5 1) 0 0 ((0, 30, 3) ∷ [])

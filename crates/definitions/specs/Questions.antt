@@ -3,18 +3,17 @@ use Prim.Native.Nat.{ℕ, _+_, _-_, _*_}
 use mathlib.Core.Bool.{Bool, true, false, not, _&&_, _||_}
 use mathlib.Core.List.{List, [], _∷_}
 use lib.ListN.{length}
-use Rattle.definitions.specs.Tests.{_<?_, _≤?_, _=?_, if_then_else_, bit, fits, hostUp, guestUp, all, any, count, keep}
+use Rattle.definitions.specs.Tests.{_<?_, _≤?_, _=?_, if_then_else_, bit, fits, guestUp, all, any, keep}
 use Rattle.definitions.specs.Rights.{READ, WRITE, EXEC, SUPER, named}
 use Rattle.definitions.specs.Regions.{meets, splits, regions, addresses, addChange, removeChange, newRecords, freed, refcountOf}
-use Rattle.definitions.specs.Segments.{hostInside, hostEnd, overlaps, isIdentity, unmapped, touched, spanWhole, spanInside, unmappedGpa, inOrder}
+use Rattle.definitions.specs.Segments.{overlaps, isIdentity, unmapped, touched, spanWhole, spanInside, unmappedGpa}
 use Rattle.definitions.specs.Reckoning.{Compartment}
 use Rattle.definitions.specs.declared.addr.HostAddr.{HostAddr}
 use Rattle.definitions.specs.declared.addr.GuestAddr.{GuestAddr}
 use Rattle.definitions.specs.declared.region.Values.{Values}
 use Rattle.definitions.specs.declared.region.Region.{Region}
-use Rattle.definitions.specs.declared.remapper.Segment.{Segment}
 use Rattle.definitions.specs.declared.answer.Refusal.{Refusal}
-use Rattle.definitions.specs.declared.answer.Refusal.the-variants.{NoCompartment, InvalidMemOps, InvalidRange, CountFull, OutOfMemory, InvalidRegion, EndedBefore, CountEmpty, EmptySegment, Overflow, AlreadyAliased, NoSlot, FrontCut, OutOfOrder, Repeated, OthersTouched, Malformed}
+use Rattle.definitions.specs.declared.answer.Refusal.the-variants.{NoCompartment, InvalidMemOps, InvalidRange, CountFull, OutOfMemory, InvalidRegion, EndedBefore, CountEmpty, EmptySegment, Overflow, AlreadyAliased, NoSlot, Repeated, OthersTouched, Malformed}
 use Rattle.definitions.specs.declared.answer.Answer.{Answer}
 use Rattle.definitions.specs.declared.answer.Answer.the-variants.{Accepted, Refused}
 
@@ -32,8 +31,6 @@ refusalNumber EmptySegment = 9
 refusalNumber Overflow = 10
 refusalNumber AlreadyAliased = 11
 refusalNumber NoSlot = 12
-refusalNumber FrontCut = 13
-refusalNumber OutOfOrder = 14
 refusalNumber Repeated = 15
 refusalNumber OthersTouched = 16
 refusalNumber Malformed = 17
@@ -85,10 +82,6 @@ lastEnd end (q ∷ qs) = lastEnd (q .end .0) qs
 unfoldable pub canLower : HostAddr → HostAddr → ℕ → List Region → Bool
 canLower a e rights rs = all (λ q. everyNamed (λ n. 0 <? n) rights (q .values)) (keep (meets a e) rs)
 
--- 13: a stored segment with hpa at or above the range's start and below its end, and its own end above the range's end
-unfoldable pub frontCut : HostAddr → HostAddr → Segment → Bool
-frontCut a e s = (a .0 ≤? s .hpa .0) && (s .hpa .0 <? e .0) && (e .0 <? hostEnd s .0)
-
 -- add and remove: 2, 3, (equal: done), then 4 and 5, or 6, 7, 5 and 8; beside the records in use in all compartments
 unfoldable pub ranged : HostAddr → HostAddr → ℕ → Answer → Answer
 ranged a e rights answer =
@@ -124,14 +117,10 @@ onMap c h g n t =
     ∷ (not (overlaps g (n * t) (c .segments)), AlreadyAliased) ∷ [])
     (if isIdentity h g t then Accepted 0 else ask ((length (c .segments) <? 64, NoSlot) ∷ []) (Accepted 0))
 
+-- both unmaps, 12 (document 02, order 3): would at most 64 segments remain?
 unfoldable pub onUnmap : Compartment → HostAddr → ℕ → Answer
 onUnmap c h n =
-    let ss = c .segments in
-    let e = hostUp h n in
-    ask
-    ((fits (h .0 + n), Overflow) ∷ (not (any (hostInside h e) ss) || (length ss <? 64), NoSlot)
-    ∷ (not (any (frontCut h e) ss), FrontCut) ∷ (inOrder (unmapped h n ss), OutOfOrder) ∷ [])
-    (Accepted 0)
+    ask ((fits (h .0 + n), Overflow) ∷ (length (unmapped h n (c .segments)) ≤? 64, NoSlot) ∷ []) (Accepted 0)
 
 -- 16, asked after 15, never gets a no from tables grown from empty ones (document 02, order 1: proofs/Sixteen.antt)
 unfoldable pub onUnmapGpa : Compartment → GuestAddr → ℕ → Answer
@@ -139,11 +128,10 @@ onUnmapGpa c g n =
     let ss = c .segments in
     let e = guestUp g n in
     let hit = keep (touched g e) ss in
-    let inner = any (spanInside g e) ss in
     if (length ss =? 0) || (n =? 0) then Accepted 0
     else
     ask
     ((fits (g .0 + n), Overflow) ∷ (all (λ s. spanWhole g e s || (s .repeat =? 1)) hit, Repeated)
-    ∷ (not inner || (length hit =? 1), OthersTouched) ∷ (not inner || (length ss <? 64), NoSlot)
-    ∷ (inOrder (unmappedGpa g n ss), OutOfOrder) ∷ [])
+    ∷ (not (any (spanInside g e) ss) || (length hit =? 1), OthersTouched)
+    ∷ (length (unmappedGpa g n ss) ≤? 64, NoSlot) ∷ [])
     (Accepted 0)

@@ -1,7 +1,7 @@
 -- Document 01, "Segments": the list, where a new one goes, what overlaps, and what a map and the two unmaps leave.
 use Prim.Native.Nat.{ℕ, _-_, _*_}
 use mathlib.Core.Bool.{Bool, true, not, _&&_}
-use mathlib.Core.List.{List, [], _∷_}
+use mathlib.Core.List.{List, [], _∷_, _++_}
 use Rattle.definitions.specs.Tests.{_<?_, _≤?_, _=?_, if_then_else_, inside, hostUp, guestUp, all, any, each}
 use Rattle.definitions.specs.declared.addr.HostAddr.{HostAddr}
 use Rattle.definitions.specs.declared.addr.GuestAddr.{GuestAddr}
@@ -54,54 +54,38 @@ front n s = segment (s .hpa) (s .gpa) n (s .repeat)
 unfoldable pub rest : ℕ → Segment → Segment
 rest n s = segment (hostUp (s .hpa) n) (guestUp (s .gpa) n) (s .size - n) (s .repeat)
 
--- `unmap_range`, of [a, e): wholly covered goes; a tail cut shortens; a range strictly inside (also of size 0) leaves two,
--- the second directly after the first, and the walk ends there, with later segments unchanged.
-unfoldable pub hostInside : HostAddr → HostAddr → Segment → Bool
-hostInside a e s = (s .hpa .0 <? a .0) && (e .0 <? hostEnd s .0)
+-- Both unmaps (document 02, order 3) cut every segment that they touch. Where its addresses from the d-th up to the f-th go,
+-- a part before them stays, and a part behind them, with host and guest starts moved up by the same distance and the same
+-- repeat; wholly covered goes.
+unfoldable pub cutOut : ℕ → ℕ → Segment → List Segment
+cutOut d f s = (if 1 ≤? d then front d s ∷ [] else []) ++ (if f <? s .size then rest f s ∷ [] else [])
 
-unfoldable pub hostWhole : HostAddr → HostAddr → Segment → Bool
-hostWhole a e s = (a .0 ≤? s .hpa .0) && (hostEnd s .0 ≤? e .0)
+-- `unmap_range`, of [a, e), by host address
+unfoldable pub hostTouched : HostAddr → HostAddr → Segment → Bool
+hostTouched a e s = (a .0 <? hostEnd s .0) && (s .hpa .0 <? e .0)
 
-unfoldable pub hostTail : HostAddr → Segment → Bool
-hostTail a s = (s .hpa .0 <? a .0) && (a .0 <? hostEnd s .0)
+unfoldable pub hostParts : HostAddr → HostAddr → Segment → List Segment
+hostParts a e s = if hostTouched a e s then cutOut (a .0 - s .hpa .0) (e .0 - s .hpa .0) s else s ∷ []
 
-unfoldable pub hostCut : HostAddr → HostAddr → List Segment → List Segment
-hostCut a e [] = []
-hostCut a e (s ∷ ss) =
-    if hostInside a e s then front (a .0 - s .hpa .0) s ∷ rest (e .0 - s .hpa .0) s ∷ ss
-    else if hostWhole a e s then hostCut a e ss
-    else if hostTail a s then front (a .0 - s .hpa .0) s ∷ hostCut a e ss
-    else s ∷ hostCut a e ss
+-- `unmap_gpa_range`, of [a, e): the same on guest spans
+unfoldable pub spanParts : GuestAddr → GuestAddr → Segment → List Segment
+spanParts a e s = if touched a e s then cutOut (a .0 - s .gpa .0) (e .0 - s .gpa .0) s else s ∷ []
 
-unfoldable pub unmapped : HostAddr → ℕ → List Segment → List Segment
-unmapped h n ss = hostCut h (hostUp h n) ss
-
--- `unmap_gpa_range`, of [a, e): the same on guest spans, but every segment is visited.
 unfoldable pub spanWhole : GuestAddr → GuestAddr → Segment → Bool
 spanWhole a e s = (a .0 ≤? s .gpa .0) && (spanEnd s .0 ≤? e .0)
 
 unfoldable pub spanInside : GuestAddr → GuestAddr → Segment → Bool
 spanInside a e s = (s .gpa .0 <? a .0) && (e .0 <? spanEnd s .0)
 
--- what is left of a segment in its place: a front cut moves hpa and gpa up without moving the segment in the list
-unfoldable pub spanLeft : GuestAddr → GuestAddr → Segment → List Segment
-spanLeft a e s =
-    if not (touched a e s) then s ∷ []
-    else if spanWhole a e s then []
-    else if s .gpa .0 <? a .0 then front (a .0 - s .gpa .0) s ∷ []
-    else rest (e .0 - s .gpa .0) s ∷ []
-
--- the second half is placed as a new one
-unfoldable pub spanHalf : GuestAddr → GuestAddr → Segment → List Segment
-spanHalf a e s = if spanInside a e s then rest (e .0 - s .gpa .0) s ∷ [] else []
-
+-- Segments whose start moved re-enter the list in host order; equals keep their former order, and a second half ranks from
+-- the place of its first: the parts in list order, each placed as a new one.
 unfoldable pub placeAll : List Segment → List Segment → List Segment
 placeAll [] ts = ts
 placeAll (s ∷ ss) ts = placeAll ss (place s ts)
 
-unfoldable pub spanCut : GuestAddr → GuestAddr → List Segment → List Segment
-spanCut a e ss = placeAll (each (spanHalf a e) ss) (each (spanLeft a e) ss)
+-- An empty range changes nothing.
+unfoldable pub unmapped : HostAddr → ℕ → List Segment → List Segment
+unmapped h n ss = if n =? 0 then ss else placeAll (each (hostParts h (hostUp h n)) ss) []
 
--- size 0 changes nothing
 unfoldable pub unmappedGpa : GuestAddr → ℕ → List Segment → List Segment
-unmappedGpa g n ss = if n =? 0 then ss else spanCut g (guestUp g n) ss
+unmappedGpa g n ss = if n =? 0 then ss else placeAll (each (spanParts g (guestUp g n)) ss) []

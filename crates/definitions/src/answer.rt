@@ -15,10 +15,8 @@ pub enum Refusal {
     EmptySegment, // 9: size and repeat are at least 1
     Overflow, // 10: the sums and the product fit 64 bits
     AlreadyAliased, // 11: the guest span overlaps no stored one
-    NoSlot, // 12: there is a free segment slot
-    FrontCut, // 13: no stored segment is cut at its front
-    OutOfOrder, // 14: the list left is in host order
-    Repeated, // 15: what is cut has repeat 1
+    NoSlot, // 12: at most 64 segments would be stored
+    Repeated, // 15: what a guest unmap cuts has repeat 1
     OthersTouched, // 16: a range strictly inside one segment touches no other; never a no since order 1
     Malformed, // 17: the script line has the form
 }
@@ -46,8 +44,6 @@ impl Refusal {
             Refusal::Overflow => 10,
             Refusal::AlreadyAliased => 11,
             Refusal::NoSlot => 12,
-            Refusal::FrontCut => 13,
-            Refusal::OutOfOrder => 14,
             Refusal::Repeated => 15,
             Refusal::OthersTouched => 16,
             Refusal::Malformed => 17,
