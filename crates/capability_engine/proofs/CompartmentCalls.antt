@@ -25,7 +25,7 @@ use Rattle.capability_engine.specs.declared.remapper.Span.{Span}
 use Rattle.capability_engine.specs.declared.compartments.Tables.{Tables}
 use Rattle.capability_engine.specs.CompartmentGrown.{trackersOf, Grown, Answers}
 use Rattle.capability_engine.specs.CompartmentSteps.{onRegions, onSegments, noTracker, OnRegions, OnSegments, AsksSegments}
-use Rattle.capability_engine.specs.RemapHeld.{Holds, IsSound}
+use Rattle.capability_engine.specs.RemapHeld.{IsHeld, IsSound}
 use Rattle.capability_engine.specs.RemapAsking.{inRange}
 use Rattle.capability_engine.specs.RemapAnswers.{Does, Decides, Inserts, CutsOut}
 use Rattle.capability_engine.proofs.RemapCalls.{holding, as-put, as-cut, did-put, did-cut, did-keep}
@@ -41,7 +41,7 @@ module _ (call : Call) (remapper : Remapper) (r : Change) (asks : AsksSegments c
   pub keeps : (x : Answer) → r ≡ Keep x → OnSegments call remapper (record { answer = x; remapper = remapper })
   keeps x e = λ n c h o. did-keep remapper _ _ r (asks n c h o) x e
 
-  pub puts : (s : Segment) → r ≡ Put s → (u : SegmentChanged) → Inserts remapper s true u → OnSegments call remapper u
+  pub puts : (s : Segment) → r ≡ Put s → (u : SegmentChanged) → Inserts remapper s u → OnSegments call remapper u
   puts s e u f = λ n c h o. did-put remapper _ _ r (asks n c h o) s e u f
 
   pub cuts : (p : Span) → r ≡ Cut p → (u : SegmentChanged) → CutsOut remapper p u → OnSegments call remapper u
@@ -55,8 +55,8 @@ module _ (call : Call) (remapper : Remapper) (r : Change) (asks : AsksSegments c
     pub ready : (a : Answer) × (ss : List Segment) × Decides remapper a ss r
     ready = (answerIn 0 (holding (h .0)) call, reckon call (holding (h .0)) .segments, asks 0 (holding (h .0)) (h .1) o)
 
-    pub ready-put : (s : Segment) → r ≡ Put s → Good s × ((ss : List Segment) × Holds remapper ss × (true ≡ false → length ss < 64))
-    ready-put s e = let w = as-put remapper _ _ r (ready .2) s e in (w .good, (w .before, w .held, λ n. absurd (true≢false n)))
+    pub ready-put : (s : Segment) → r ≡ Put s → Good s × IsHeld remapper
+    ready-put s e = let w = as-put remapper _ _ r (ready .2) s e in (w .good, (w .before, w .held))
 
     pub ready-cut : (p : Span) → r ≡ Cut p → inRange p × IsSound remapper
     ready-cut p e = (as-cut remapper _ _ r (ready .2) p e .range, h)

@@ -100,7 +100,7 @@ module _ (words next links gens : List ℕ) (t : Tables) (calls : List Call) (g 
     held d = remapped-at (t .remappers) (after calls) k d (g .remapped) (omega (arith, length-after calls))
 
     pub sound : (d : Remapper) → Sound (getD (t .remappers) k d) (compartment (after calls) k .segments)
-    sound d = record { held = held d; unshared = stored calls k .unshared }
+    sound d = let s = stored calls k in record { held = held d; order = s .order; unshared = s .unshared }
 
     pub whole : Whole next words (getD (t .trackers) k noTracker .head)
     whole = grown-whole words next links gens (trackersOf t) calls (g .pooled) k l noTracker

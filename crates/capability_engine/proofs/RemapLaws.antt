@@ -1,6 +1,6 @@
 -- Laws of a linked list of slots, of the segments at the slots, and of a place in the list.
 use Prim.Native.Nat.{ℕ, zero, suc, _+_, _<_, _≤_}
-use mathlib.Core.Path.{_≡_, refl, sym, ap, _∙_}
+use mathlib.Core.Path.{_≡_, refl, sym, ap, ap₂, _∙_}
 use mathlib.Core.List.{List, [], _∷_, _++_}
 use mathlib.Core.Bool.{Bool, true, false, not, cond}
 use native.Mathlib.Omega.{arith}
@@ -16,7 +16,7 @@ use Rattle.free_list.proofs.Laws.{in-use-rest, none-used}
 use Rattle.definitions.proofs.SegmentLaws.{AllGood}
 use Rattle.definitions.specs.declared.remapper.Segment.{Segment}
 use Rattle.capability_engine.specs.declared.remapper.Remapper.{Remapper}
-use Rattle.capability_engine.specs.RemapHeld.{Chain, hit, occ, noSegment, segsAt, Owns, Holds, lastOr, joinLinks, joinHead, follow, ahead}
+use Rattle.capability_engine.specs.RemapHeld.{Chain, hit, occ, noSegment, segsAt, Owns, Holds, lastOr, joinLinks, joinHead, behind, follow, ahead}
 
 -- ---- how often a slot stands in a list
 
@@ -72,6 +72,13 @@ pub chain-first : (links : List ℕ) (h : ℕ) (xs ys : List ℕ) (m e : ℕ) �
 chain-first links h [] ys m e c d = chain-same links h m ys e c d
 chain-first links h (x ∷ xs) ys m e c d = (c .0, chain-first links (getD links x 0) xs ys m e (c .1) d)
 
+-- where a chain goes on behind its first part
+pub chain-behind : (links : List ℕ) (head h d : ℕ) (xs ys : List ℕ) (e : ℕ) → ((z : ℕ) → 1 ≤ occ z xs → z < 64) → h ≡ behind links head d
+    → Chain links h (xs ++ ys) e → Chain links (behind links head (lastOr d xs)) ys e
+chain-behind links head h d [] ys e b q c = rw q at c
+chain-behind links head h d (x ∷ xs) ys e b q c =
+    chain-behind links head (getD links x 0) x xs ys e (λ z o. b z (omega arith)) (rw (lt-ltb x 64 (b x (omega (arith, hit-same x))))) (c .1)
+
 -- the last link of a chain, or the head, turned elsewhere
 turned : (links : List ℕ) (h x : ℕ) (xs : List ℕ) (m to : ℕ) → lastOr x xs < length links → ((z : ℕ) → occ z (x ∷ xs) ≤ 1) → Chain links h (x ∷ xs) m
     → Chain (set links (lastOr x xs) to) h (x ∷ xs) to
@@ -120,6 +127,22 @@ length-segs g (x ∷ xs) = ap suc (length-segs g xs)
 pub good-append : (ss ts : List Segment) → AllGood ss → AllGood ts → AllGood (ss ++ ts)
 good-append [] ts g h = h
 good-append (s ∷ ss) ts g h = (g .0, good-append ss ts (g .1) h)
+
+pub good-parts : (ss ts : List Segment) → AllGood (ss ++ ts) → AllGood ss × AllGood ts
+good-parts [] ts g = (tt, g)
+good-parts (s ∷ ss) ts g = let b = good-parts ss ts (g .1) in ((g .0, b .0), b .1)
+
+-- two lists that are one after the other the same, the first of one length
+pub append-parts : (xs ys zs ws : List Segment) → length xs ≡ length zs → xs ++ ys ≡ zs ++ ws → (xs ≡ zs) × (ys ≡ ws)
+append-parts [] ys [] ws l e = (refl, e)
+append-parts [] ys (z ∷ zs) ws l e = absurd (omega arith)
+append-parts (x ∷ xs) ys [] ws l e = absurd (omega arith)
+append-parts (x ∷ xs) ys (z ∷ zs) ws l e =
+    let h = heads (xs ++ ys) (zs ++ ws) e in
+    let p = append-parts xs ys zs ws (omega arith) (h .1) in (ap₂ _∷_ (h .0) (p .0), p .1)
+  where
+    heads : (ps qs : List Segment) → x ∷ ps ≡ z ∷ qs → (x ≡ z) × (ps ≡ qs)
+    heads ps qs e = (cc, cc)
 
 -- ---- following the links gives the list
 

@@ -1,33 +1,44 @@
 -- The loops: what each keeps, how it starts, goes on and ends.
 use Prim.Native.Nat.{ℕ, suc, _+_, _<_, _≤_}
 use mathlib.Core.Path.{_≡_, refl, sym, ap, _∙_, subst}
-use mathlib.Core.List.{List, [], _∷_, _++_, append-assoc}
-use mathlib.Core.Bool.{Bool, true, false, _&&_, _||_, cond}
+use mathlib.Core.List.{List, [], _∷_, _++_, append-assoc, append-nil}
+use mathlib.Core.Bool.{Bool, true, false}
 use native.Mathlib.Omega.{arith}
 use lib.ListN.{length, getD, length-append}
-use borrow.Author.Tests.{le-leb, lt-leb, leb-true}
-use Rattle.definitions.specs.Tests.{_≤?_, all, any}
-use Rattle.definitions.specs.Segments.{touched, place, inOrder}
+use borrow.Author.Tests.{le-leb, lt-leb, ltb-true, ltb-false, le-ltb}
+use Rattle.free_list.specs.declared.FreeList.{FreeList}
+use Rattle.definitions.specs.Tests.{_<?_, if_then_else_, any, each}
+use Rattle.definitions.specs.Segments.{touched, place}
 use Rattle.definitions.proofs.SegmentLaws.{Good}
+use Rattle.definitions.proofs.WalkLaws.{Every, every-more, Rising}
 use Rattle.definitions.specs.declared.addr.GuestAddr.{GuestAddr}
 use Rattle.definitions.specs.declared.remapper.Segment.{Segment}
 use Rattle.capability_engine.specs.declared.remapper.Remapper.{Remapper}
 use Rattle.capability_engine.specs.declared.remapper.Span.{Span}
-use Rattle.capability_engine.specs.declared.remapper.Asked.{Asked}
-use Rattle.capability_engine.specs.declared.remapper.Order.{Order}
-use Rattle.capability_engine.specs.declared.remapper.Left.{Left}
-use Rattle.capability_engine.specs.declared.remapper.Left.the-variants.{Gone, Kept, Two}
-use Rattle.capability_engine.specs.RemapHeld.{noSegment, Holds, Zip, ahead}
-use Rattle.capability_engine.specs.RemapAsking.{leftOf, okFor, askStep, askAll, nothingAsked, onward, walked, isTwo, Trimmable, orderAt, orderStep, unordered}
+use Rattle.capability_engine.specs.declared.remapper.Left.the-variants.{Gone, Kept}
+use Rattle.capability_engine.specs.RemapHeld.{Chain, noSegment, segsAt, Holds, lastOr, Zip, behind, ahead}
+use Rattle.capability_engine.specs.RemapAsking.{reachOf, leftOf, leaves, badFor}
 use Rattle.capability_engine.specs.RemapListing.{Some}
-use Rattle.capability_engine.proofs.RemapParts.{both, bad-step}
-use Rattle.capability_engine.proofs.RemapPlaces.{zip-small, zip-at, zip-start, zip-ahead, zip-end, zip-open, zip-holds, zip-skip}
+use Rattle.capability_engine.proofs.RemapParts.{or-false, listed, left-listed, left-good}
+use Rattle.capability_engine.proofs.RemapPlaces.{zip-at, zip-start, zip-ahead, zip-end, zip-open, zip-holds, zip-skip, zip-as, zip-many, zip-back, ZipOver}
 
 abbrev pub segment-at : Remapper → ℕ → Segment
 segment-at r at = getD (r .segments) at noSegment
 
 abbrev pub next-of : Remapper → ℕ → ℕ
 next-of r at = getD (r .links) at 0
+
+-- a remapper with another free list and another head
+abbrev pub headed : Remapper → FreeList → ℕ → Remapper
+headed r list head = record { segments = r .segments; links = r .links; free = r .free; list = list; head = head }
+
+-- an empty one has no head
+pub empty-head : (r : Remapper) → Holds r [] → Holds (headed r (r .list) 64) []
+empty-head r h = subst (λ i. Holds (headed r (r .list) i) []) (go (h .slots) (h .owns .chain) (h .read)) h
+  where
+    go : (q : List ℕ) → Chain (r .links) (r .head) q 64 → segsAt (r .segments) q ≡ [] → r .head ≡ 64
+    go [] c e = c
+    go (x ∷ q) c e = absurd (omega (arith, ap length e))
 
 -- nothing lies ahead of none
 ahead-none : (links : List ℕ) → ahead links 64 ≡ 0
@@ -95,125 +106,6 @@ module _ (r : Remapper) (a e : GuestAddr) (at : ℕ) (ss : List Segment) (m : Me
 
   pub meets-on : at < 64 → touched a e (segment-at r at) ≡ false → Meets r a e (next-of r at) ss
   meets-on l h = let o = some-open r at (m .0) (m .1) l in (o .more, o .on, sym (ap (any (touched a e)) (o .are) ∙ rw h) ∙ m .2)
-
--- ---- is the list in order?
-
-abbrev pub sortedFrom : ℕ → List Segment → Bool
-sortedFrom m [] = true
-sortedFrom m (s ∷ ss) = (m ≤? s .hpa .0) && sortedFrom (s .hpa .0) ss
-
-and-swap : (a b c : Bool) → (a && (b && c)) ≡ (b && (a && c))
-and-swap true true c = refl
-and-swap true false c = refl
-and-swap false true c = refl
-and-swap false false c = refl
-
--- what lies above a higher bound lies above a lower one
-bound : (m n : ℕ) (ss : List Segment) → m ≤ n → (all (λ t. m ≤? t .hpa .0) ss && all (λ t. n ≤? t .hpa .0) ss) ≡ all (λ t. n ≤? t .hpa .0) ss
-bound m n [] l = refl
-bound m n (s ∷ ss) l = go (n ≤? s .hpa .0) refl (bound m n ss l)
-  where
-    drop : (a b : Bool) → (a && (b && false)) ≡ false
-    drop true true = refl
-    drop true false = refl
-    drop false b = refl
-
-    off : (a b : Bool) → ((a && b) && false) ≡ false
-    off true true = refl
-    off true false = refl
-    off false b = refl
-
-    go : (b : Bool) → (n ≤? s .hpa .0) ≡ b → (all (λ t. m ≤? t .hpa .0) ss && all (λ t. n ≤? t .hpa .0) ss) ≡ all (λ t. n ≤? t .hpa .0) ss
-        → (((m ≤? s .hpa .0) && all (λ t. m ≤? t .hpa .0) ss) && (b && all (λ t. n ≤? t .hpa .0) ss)) ≡ (b && all (λ t. n ≤? t .hpa .0) ss)
-    go true d ih = rw (le-leb m (s .hpa .0) (omega (arith, leb-true n (s .hpa .0) d))) ih
-    go false d ih = off (m ≤? s .hpa .0) (all (λ t. m ≤? t .hpa .0) ss)
-
-and-true : (a : Bool) → (a && true) ≡ a
-and-true true = refl
-and-true false = refl
-
-and-assoc : (a b c : Bool) → ((a && b) && c) ≡ (a && (b && c))
-and-assoc true b c = refl
-and-assoc false b c = refl
-
-pub sorted-is : (m : ℕ) (ss : List Segment) → sortedFrom m ss ≡ (all (λ t. m ≤? t .hpa .0) ss && inOrder ss)
-unfolding inOrder
-sorted-is m [] = refl
-sorted-is m (s ∷ ss) = go (m ≤? s .hpa .0) refl (sorted-is (s .hpa .0) ss)
-  where
-    go : (b : Bool) → (m ≤? s .hpa .0) ≡ b → sortedFrom (s .hpa .0) ss ≡ (all (λ t. s .hpa .0 ≤? t .hpa .0) ss && inOrder ss)
-        → (b && sortedFrom (s .hpa .0) ss) ≡ ((b && all (λ t. m ≤? t .hpa .0) ss) && (all (λ t. s .hpa .0 ≤? t .hpa .0) ss && inOrder ss))
-    go true d ih =
-        ih ∙ sym (sym (and-assoc (all (λ t. m ≤? t .hpa .0) ss) (all (λ t. s .hpa .0 ≤? t .hpa .0) ss) (inOrder ss))
-        ∙ rw (bound m (s .hpa .0) ss (leb-true m (s .hpa .0) d)))
-    go false d ih = refl
-
-all-zero : (ss : List Segment) → all (λ t. 0 ≤? t .hpa .0) ss ≡ true
-all-zero [] = refl
-all-zero (s ∷ ss) = rw (le-leb 0 (s .hpa .0) (omega arith)) (all-zero ss)
-
--- ---- the questions
-
-abbrev pub Asks : Remapper → Span → Asked → ℕ → List Segment → Type 0
-Asks r p k at ss = (ts : List Segment) × Some r at ts × (askAll p k ts ≡ askAll p nothingAsked ss)
-
-pub asks-start : (r : Remapper) (p : Span) (ss : List Segment) → Holds r ss → Asks r p nothingAsked (r .head) ss
-asks-start r p ss h = (ss, some-start r ss h, refl)
-
-module _ (r : Remapper) (p : Span) (k : Asked) (at : ℕ) (ss : List Segment) (w : Asks r p k at ss) where
-  pub asks-end : 64 ≤ at → k ≡ askAll p nothingAsked ss
-  asks-end l = ap (askAll p k) (sym (some-end r at (w .0) (w .1) l)) ∙ w .2
-
-  pub asks-on : (k2 : Asked) → at < 64 → k2 ≡ askStep p k (segment-at r at) → Asks r p k2 (next-of r at) ss
-  asks-on k2 l e =
-      let o = some-open r at (w .0) (w .1) l in
-      (o .more, o .on, ap (λ q. askAll p q (o .more)) e ∙ sym (ap (askAll p k) (o .are)) ∙ w .2)
-
--- ---- the order of what is left
-
--- what is still to come of it
-abbrev pub still : Span → Order → List Segment → Bool
-still p o ts = o .sorted && sortedFrom (o .last) (cond (o .two) ts (walked p ts))
-
--- one more segment
-still-step : (p : Span) (o : Order) (s : Segment) (ts : List Segment) → still p (orderStep p false o s) ts ≡ still p o (s ∷ ts)
-unfolding orderStep orderAt
-still-step p o s ts = go (o .two) refl (leftOf p s) refl
-  where
-    go : (b : Bool) → o .two ≡ b → (l : Left) → leftOf p s ≡ l → still p (orderStep p false o s) ts ≡ still p o (s ∷ ts)
-    go true d l f = simp d (and-assoc (o .sorted) (o .last ≤? s .hpa .0) (sortedFrom (s .hpa .0) ts))
-    go false d Gone f = simp (d, f)
-    go false d (Kept t) f = simp (d, f) (and-assoc (o .sorted) (o .last ≤? t .hpa .0) (sortedFrom (t .hpa .0) (walked p ts)))
-    go false d (Two t u) f =
-        simp (d, f)
-        (and-assoc (o .sorted && (o .last ≤? t .hpa .0)) (t .hpa .0 ≤? u .hpa .0) (sortedFrom (u .hpa .0) ts)
-        ∙ and-assoc (o .sorted) (o .last ≤? t .hpa .0) ((t .hpa .0 ≤? u .hpa .0) && sortedFrom (u .hpa .0) ts))
-
-abbrev pub Orders : Remapper → Span → Asked → Order → ℕ → List Segment → Type 0
-Orders r p k o at ss = (ts : List Segment) × Some r at ts × (k .bad ≡ false → still p o ts ≡ inOrder (walked p ss))
-
-pub orders-start : (r : Remapper) (p : Span) (k : Asked) (ss : List Segment) → Holds r ss → Orders r p k unordered (r .head) ss
-orders-start r p k ss h = (ss, some-start r ss h, λ b. sorted-is 0 (walked p ss) ∙ rw (all-zero (walked p ss)))
-
-module _ (r : Remapper) (p : Span) (k : Asked) (o : Order) (at : ℕ) (ss : List Segment) (w : Orders r p k o at ss) where
-  pub orders-end : 64 ≤ at → k .bad ≡ false → o .sorted ≡ inOrder (walked p ss)
-  orders-end l b = sym (and-true (o .sorted)) ∙ sym (flat (o .two)) ∙ ap (still p o) (sym (some-end r at (w .0) (w .1) l)) ∙ w .2 b
-    where
-      flat : (t : Bool) → (o .sorted && sortedFrom (o .last) (cond t [] [])) ≡ (o .sorted && true)
-      flat true = refl
-      flat false = refl
-
-  pub orders-on : (k2 : Asked) (o2 : Order) → at < 64 → k2 ≡ askStep p k (segment-at r at) → o2 ≡ orderStep p (k2 .bad) o (segment-at r at)
-      → Orders r p k2 o2 (next-of r at) ss
-  orders-on k2 o2 l e f =
-      let v = some-open r at (w .0) (w .1) l in (
-        v .more,
-        v .on,
-        λ b.
-            (let c = bad-step p k (segment-at r at) (ap (λ q. q .bad) (sym e) ∙ b) .0 in
-            let g : o2 ≡ orderStep p false o (segment-at r at) = f ∙ ap (λ q. orderStep p q o (segment-at r at)) b in
-            ap (λ q. still p q (v .more)) g ∙ still-step p o (segment-at r at) (v .more) ∙ sym (ap (still p o) (v .are)) ∙ w .2 c),
-      )
 
 -- ---- where a new one goes
 
@@ -297,59 +189,140 @@ module _ (r : Remapper) (s : Segment) (prev at on : ℕ) (ss : List Segment) (w 
   pub seeks-last : ahead (r .links) 64 < ahead (r .links) on
   seeks-last = let p = spot in some-last r on (p .left) (record { prev = prev; done = p .done; zip = p .zip }) l
 
--- ---- each becomes what a range leaves of it
+-- ---- each becomes what stays of it in its place, and the last slot below a host address is noted
 
-pub record Trims (r : Remapper) (p : Span) (prev at : ℕ) (ss : List Segment) : Type 0 where
+-- the last of some slots with a segment below n, or d
+abbrev pub lastBelow : ℕ → List ℕ → List Segment → ℕ → ℕ
+lastBelow n [] ts d = d
+lastBelow n (x ∷ xs) [] d = d
+lastBelow n (x ∷ xs) (t ∷ ts) d = lastBelow n xs ts (if t .hpa .0 <? n then x else d)
+
+pub below-snoc : (n : ℕ) (xs : List ℕ) (ts : List Segment) (d x : ℕ) (t : Segment) → length xs ≡ length ts
+    → lastBelow n (xs ++ (x ∷ [])) (ts ++ (t ∷ [])) d ≡ (if t .hpa .0 <? n then x else lastBelow n xs ts d)
+below-snoc n [] [] d x t e = refl
+below-snoc n [] (u ∷ ts) d x t e = absurd (omega arith)
+below-snoc n (y ∷ xs) [] d x t e = absurd (omega arith)
+below-snoc n (y ∷ xs) (u ∷ ts) d x t e = below-snoc n xs ts (if u .hpa .0 <? n then y else d) x t (omega arith)
+
+none-below : (n : ℕ) (xs : List ℕ) (ts : List Segment) (d : ℕ) → Every (λ t. n ≤ t .hpa .0) ts → lastBelow n xs ts d ≡ d
+none-below n [] ts d h = refl
+none-below n (x ∷ xs) [] d h = refl
+none-below n (x ∷ xs) (t ∷ ts) d h = rw (le-ltb (t .hpa .0) n (h .0)) (none-below n xs ts d (h .1))
+
+-- of a list in order it parts those below n from the others
+record Parted (n : ℕ) (xs : List ℕ) (ts : List Segment) (d : ℕ) : Type 0 where
+  xs-low : List ℕ
+  xs-high : List ℕ
+  low : List Segment
+  high : List Segment
+  slots : xs ≡ xs-low ++ xs-high
+  are : ts ≡ low ++ high
+  many : length xs-low ≡ length low
+  last : lastBelow n xs ts d ≡ lastOr d xs-low
+  below : Every (λ t. t .hpa .0 < n) low
+  above : Every (λ t. n ≤ t .hpa .0) high
+
+parted : (n : ℕ) (xs : List ℕ) (ts : List Segment) (d : ℕ) → length xs ≡ length ts → Rising ts → Parted n xs ts d
+parted n [] [] d e o =
+    record { xs-low = []; xs-high = []; low = []; high = []; slots = refl; are = refl; many = refl; last = refl; below = tt; above = tt }
+parted n [] (t ∷ ts) d e o = absurd (omega arith)
+parted n (x ∷ xs) [] d e o = absurd (omega arith)
+parted n (x ∷ xs) (t ∷ ts) d e o = go (t .hpa .0 <? n) refl (o .0) (parted n xs ts x (omega arith) (o .1))
+  where
+    go : (c : Bool) → (t .hpa .0 <? n) ≡ c → Every (λ u. t .hpa .0 ≤ u .hpa .0) ts → Parted n xs ts x → Parted n (x ∷ xs) (t ∷ ts) d
+    go true q h p =
+        record {
+          xs-low = x ∷ p .xs-low;
+          xs-high = p .xs-high;
+          low = t ∷ p .low;
+          high = p .high;
+          slots = ap (λ l. x ∷ l) (p .slots);
+          are = ap (λ l. t ∷ l) (p .are);
+          many = ap suc (p .many);
+          last = rw q (p .last);
+          below = (ltb-true (t .hpa .0) n q, p .below);
+          above = p .above;
+        }
+    go false q h p =
+        let m : n ≤ t .hpa .0 = ltb-false (t .hpa .0) n q in
+        let k : Every (λ u. n ≤ u .hpa .0) ts = every-more _ _ (λ u l. omega (arith, l)) ts h in
+        record {
+          xs-low = [];
+          xs-high = x ∷ xs;
+          low = [];
+          high = t ∷ ts;
+          slots = refl;
+          are = refl;
+          many = refl;
+          last = rw q (none-below n xs ts d k);
+          below = tt;
+          above = (m, k);
+        }
+
+pub record Trims (r : Remapper) (p : Span) (n prev last at : ℕ) (ss : List Segment) : Type 0 where
   pub done : List Segment
   pub left : List Segment
   pub zip : Zip r prev at done left
-  pub goal : done ++ walked p left ≡ walked p ss
-  pub ok : all (okFor p) left ≡ true
-  pub room : any (λ s. isTwo (leftOf p s)) left ≡ true → length done + length left < 64
-  pub small : length done + length left ≤ 64
+  pub goal : done ++ each (leftOf p) left ≡ each (leftOf p) ss
+  pub ok : any (badFor p) left ≡ false
+  pub noted : last ≡ lastBelow n (zip .passed) done 64
 
-pub record Cut (r : Remapper) (p : Span) (prev at : ℕ) (ss : List Segment) (w : Trims r p prev at ss) : Type 0 where
+pub record Cut (r : Remapper) (p : Span) (n prev last at : ℕ) (ss : List Segment) (w : Trims r p n prev last at ss) : Type 0 where
   pub more : List Segment
   pub are : w .left ≡ segment-at r at ∷ more
   pub zip : Zip r prev at (w .done) (segment-at r at ∷ more)
+  pub same : zip .passed ≡ w .zip .passed
   pub good : Good (segment-at r at)
-  pub ok : okFor p (segment-at r at) ≡ true
-  pub ok-more : all (okFor p) more ≡ true
-  pub goal : w .done ++ onward (leftOf p (segment-at r at)) more (walked p more) ≡ walked p ss
-  pub room : (isTwo (leftOf p (segment-at r at)) || any (λ s. isTwo (leftOf p s)) more) ≡ true → length (w .done) + suc (length more) < 64
+  pub ok : badFor p (segment-at r at) ≡ false
+  pub ok-more : any (badFor p) more ≡ false
+  pub goal : w .done ++ (listed (leaves (reachOf p (segment-at r at)) (segment-at r at)) ++ each (leftOf p) more) ≡ each (leftOf p) ss
 
-pub trims-start : (r : Remapper) (p : Span) (ss : List Segment) → Holds r ss → Trimmable p ss → Trims r p 64 (r .head) ss
-trims-start r p ss h t =
-    let z = zip-start r ss h in
+pub trims-start : (r : Remapper) (p : Span) (n : ℕ) (ss : List Segment) → Holds r ss → any (badFor p) ss ≡ false → Trims r p n 64 64 (r .head) ss
+unfolding zip-start
+trims-start r p n ss h ok = record { done = []; left = ss; zip = zip-start r ss h; goal = refl; ok = ok; noted = refl }
+
+-- a place in a list in order, where the segments below n end
+pub record Between (r : Remapper) (n last : ℕ) (ts : List Segment) : Type 0 where
+  pub low : List Segment
+  pub high : List Segment
+  pub zip : Zip r last (behind (r .links) (r .head) last) low high
+  pub are : ts ≡ low ++ high
+  pub below : Every (λ t. t .hpa .0 < n) low
+  pub above : Every (λ t. n ≤ t .hpa .0) high
+
+pub between : (r : Remapper) (n prev last at : ℕ) (done ts : List Segment) (w : Zip r prev at done ts) → ts ≡ [] → last ≡ lastBelow n (w .passed) done 64 → Rising done
+    → Between r n last done
+between r n prev last at done ts w e q o =
+    let b = parted n (w .passed) done 64 (zip-many r prev at done ts w) o in
+    let z : Zip r (lastOr 64 (b .xs-low)) (behind (r .links) (r .head) (lastOr 64 (b .xs-low))) (b .low) (b .high ++ ts) =
+    zip-back r prev at done ts w (b .xs-low) (b .xs-high) (b .low) (b .high) (b .slots) (b .are) (b .many) in
+    let f : b .high ++ ts ≡ b .high = ap (λ v. b .high ++ v) e ∙ append-nil (b .high) in
     record {
-      done = [];
-      left = ss;
-      zip = z;
-      goal = refl;
-      ok = t .ok;
-      room = λ e. omega (arith, t .room e);
-      small = omega (arith, zip-small r 64 (r .head) [] ss z);
+      low = b .low;
+      high = b .high;
+      zip = subst (λ v. Zip r v (behind (r .links) (r .head) v) (b .low) (b .high)) (sym (q ∙ b .last)) (rw f at z);
+      are = b .are;
+      below = b .below;
+      above = b .above;
     }
 
-or-right : (a b : Bool) → b ≡ true → (a || b) ≡ true
-or-right true b e = refl
-or-right false b e = e
-
-module _ (r : Remapper) (p : Span) (prev at : ℕ) (ss : List Segment) (w : Trims r p prev at ss) where
-  pub trims-cut : at < 64 → Cut r p prev at ss w
+module _ (r : Remapper) (p : Span) (n prev last at : ℕ) (ss : List Segment) (w : Trims r p n prev last at ss) where
+  pub trims-cut : at < 64 → Cut r p n prev last at ss w
+  unfolding zip-as
   trims-cut l =
       let o = zip-open r prev at (w .done) (w .left) (w .zip) l in
-      let z : Zip r prev at (w .done) (segment-at r at ∷ o .0) = rw (o .1) at (w .zip) in
-      let b = both (okFor p (segment-at r at)) (all (okFor p) (o .0)) (rw (o .1) at (w .ok)) in
+      let z : Zip r prev at (w .done) (segment-at r at ∷ o .0) = zip-as r prev at (w .done) (w .left) (segment-at r at ∷ o .0) (w .zip) (o .1) in
+      let b = or-false (badFor p (segment-at r at)) (any (badFor p) (o .0)) (sym (ap (any (badFor p)) (o .1)) ∙ w .ok) in
       record {
         more = o .0;
         are = o .1;
         zip = z;
+        same = refl;
         good = z .good-left .0;
         ok = b .0;
         ok-more = b .1;
-        goal = sym (ap (λ q. w .done ++ walked p q) (o .1)) ∙ w .goal;
-        room = λ e. omega (arith, w .room (ap (any (λ s. isTwo (leftOf p s))) (o .1) ∙ e), ap length (o .1));
+        goal = ap (λ q. w .done ++ (q ++ each (leftOf p) (o .0))) (sym (left-listed p (segment-at r at)))
+            ∙ sym (ap (λ q. w .done ++ each (leftOf p) q) (o .1)) ∙ w .goal;
       }
 
   pub trims-next : at < 64 → next-of r at ≤ 64
@@ -365,59 +338,40 @@ module _ (r : Remapper) (p : Span) (prev at : ℕ) (ss : List Segment) (w : Trim
         ap length (trims-cut l .are),
       )
 
-  pub trims-end : 64 ≤ at → Holds r (walked p ss)
-  trims-end l =
+  pub trims-end : 64 ≤ at → Rising (each (leftOf p) ss) → Between r n last (each (leftOf p) ss)
+  trims-end l o =
       let e : w .left ≡ [] = zip-end r prev at (w .done) (w .left) (w .zip) l in
-      let h : Holds r (w .done ++ w .left) = zip-holds r prev at (w .done) (w .left) (w .zip) in
-      let q : w .done ++ w .left ≡ walked p ss = ap (λ v. w .done ++ v) e ∙ sym (ap (λ v. w .done ++ walked p v) e) ∙ w .goal in
-      rw q at h
+      let q : w .done ≡ each (leftOf p) ss = sym (append-nil (w .done)) ∙ sym (ap (λ v. w .done ++ each (leftOf p) v) e) ∙ w .goal in
+      rw q at (between r n prev last at (w .done) (w .left) (w .zip) e (w .noted) (rw q o))
 
-  pub trims-gone : (r2 : Remapper) (l : at < 64) → leftOf p (segment-at r at) ≡ Gone → Zip r2 prev (next-of r at) (w .done) (trims-cut l .more)
-      → Trims r2 p prev (next-of r at) ss
+  pub trims-gone : (r2 : Remapper) (l : at < 64) → leaves (reachOf p (segment-at r at)) (segment-at r at) ≡ Gone
+      → ZipOver r2 (trims-cut l .zip .passed) prev (next-of r at) (w .done) (trims-cut l .more) → Trims r2 p n prev last (next-of r at) ss
   trims-gone r2 l e z =
       let c = trims-cut l in
       record {
         done = w .done;
         left = c .more;
-        zip = z;
-        goal = sym (ap (λ v. w .done ++ onward v (c .more) (walked p (c .more))) e) ∙ c .goal;
+        zip = z .0;
+        goal = sym (ap (λ v. w .done ++ (listed v ++ each (leftOf p) (c .more))) e) ∙ c .goal;
         ok = c .ok-more;
-        room = λ h. omega (arith, c .room (or-right (isTwo (leftOf p (segment-at r at))) (any (λ s. isTwo (leftOf p s)) (c .more)) h));
-        small = omega (arith, w .small, ap length (c .are));
+        noted = w .noted ∙ ap (λ v. lastBelow n v (w .done) 64) (sym (z .1 ∙ c .same));
       }
 
-  pub trims-kept : (r2 : Remapper) (t : Segment) (l : at < 64) → leftOf p (segment-at r at) ≡ Kept t → Zip r2 at (next-of r at) (w .done ++ (t ∷ [])) (trims-cut l .more)
-      → Trims r2 p at (next-of r at) ss
-  trims-kept r2 t l e z =
+  pub trims-kept : (r2 : Remapper) (t : Segment) (last2 : ℕ) (l : at < 64) → leaves (reachOf p (segment-at r at)) (segment-at r at) ≡ Kept t
+      → last2 ≡ (if t .hpa .0 <? n then at else last)
+      → ZipOver r2 (trims-cut l .zip .passed ++ (at ∷ [])) at (next-of r at) (w .done ++ (t ∷ [])) (trims-cut l .more) → Trims r2 p n at last2 (next-of r at) ss
+  trims-kept r2 t last2 l e q z =
       let c = trims-cut l in
+      let m : length (w .zip .passed) ≡ length (w .done) = zip-many r prev at (w .done) (w .left) (w .zip) in
       record {
         done = w .done ++ (t ∷ []);
         left = c .more;
-        zip = z;
-        goal = append-assoc (w .done) (t ∷ []) (walked p (c .more)) ∙ sym (ap (λ v. w .done ++ onward v (c .more) (walked p (c .more))) e) ∙ c .goal;
+        zip = z .0;
+        goal = append-assoc (w .done) (t ∷ []) (each (leftOf p) (c .more)) ∙ sym (ap (λ v. w .done ++ (listed v ++ each (leftOf p) (c .more))) e) ∙ c .goal;
         ok = c .ok-more;
-        room = λ h.
-            omega (
-              arith,
-              c .room (or-right (isTwo (leftOf p (segment-at r at))) (any (λ s. isTwo (leftOf p s)) (c .more)) h),
-              length-append (w .done) (t ∷ []),
-            );
-        small = omega (arith, w .small, ap length (c .are), length-append (w .done) (t ∷ []));
+        noted = q ∙ ap (λ v. if t .hpa .0 <? n then at else v) (w .noted) ∙ sym (below-snoc n (w .zip .passed) (w .done) 64 at t m)
+            ∙ ap (λ v. lastBelow n v (w .done ++ (t ∷ [])) 64) (sym (z .1 ∙ ap (λ v. v ++ (at ∷ [])) (c .same)));
       }
 
-  pub trims-two : (r2 : Remapper) (t u : Segment) (l : at < 64) → leftOf p (segment-at r at) ≡ Two t u → Holds r2 ((w .done ++ (t ∷ [])) ++ (u ∷ trims-cut l .more))
-      → Holds r2 (walked p ss)
-  trims-two r2 t u l e h =
-      let c = trims-cut l in
-      let q : (w .done ++ (t ∷ [])) ++ (u ∷ c .more) ≡ walked p ss =
-      append-assoc (w .done) (t ∷ []) (u ∷ c .more) ∙ sym (ap (λ v. w .done ++ onward v (c .more) (walked p (c .more))) e) ∙ c .goal in
-      rw q at h
-
-  pub trims-room : (t u : Segment) (l : at < 64) → leftOf p (segment-at r at) ≡ Two t u → length (w .done ++ (t ∷ [])) + length (trims-cut l .more) < 64
-  trims-room t u l e =
-      let c = trims-cut l in
-      omega (
-        arith,
-        c .room (ap (λ v. isTwo v || any (λ s. isTwo (leftOf p s)) (c .more)) e),
-        length-append (w .done) (t ∷ []),
-      )
+  pub trims-good : (t : Segment) (l : at < 64) → leaves (reachOf p (segment-at r at)) (segment-at r at) ≡ Kept t → Good t
+  trims-good t l e = let c = trims-cut l in left-good p (segment-at r at) (c .good) (c .ok) t e

@@ -1,21 +1,21 @@
 -- What each call ensures: the definitions' answer, the list that they leave where it is accepted, and where it is refused
 -- the very struct that went in. The first questions come to a change, and the change asks the rest and does it.
-use Prim.Native.Nat.{ℕ, _+_, _*_, _<_}
+use Prim.Native.Nat.{ℕ, _+_, _*_, _≤_}
 use mathlib.Core.Path.{_≡_}
 use mathlib.Core.List.{List, [], _∷_}
 use mathlib.Core.Bool.{Bool, true, false, not, _&&_, _||_}
 use lib.ListN.{length}
-use Rattle.definitions.specs.Tests.{_<?_, _≤?_, _=?_, if_then_else_, fits, all, any, keep}
+use Rattle.definitions.specs.Tests.{_<?_, _≤?_, _=?_, if_then_else_, fits, all, any, keep, each}
 use Rattle.definitions.proofs.SegmentLaws.{Good}
-use Rattle.definitions.specs.Segments.{overlaps, isIdentity, place, mapped, hostInside, hostCut, unmapped, touched, spanWhole, spanInside, spanCut, unmappedGpa, inOrder}
+use Rattle.definitions.specs.Segments.{overlaps, isIdentity, mapped, hostParts, unmapped, touched, spanWhole, spanInside, spanParts, placeAll, unmappedGpa}
 use Rattle.definitions.specs.Reckoning.{Compartment}
-use Rattle.definitions.specs.Questions.{ask, accepted, frontCut, onOverlaps, onMap, onUnmap, onUnmapGpa}
+use Rattle.definitions.specs.Questions.{ask, accepted, onOverlaps, onMap, onUnmap, onUnmapGpa}
 use Rattle.definitions.specs.declared.addr.HostAddr.{HostAddr}
 use Rattle.definitions.specs.declared.addr.GuestAddr.{GuestAddr}
 use Rattle.definitions.specs.declared.remapper.Segment.{Segment}
-use Rattle.definitions.specs.declared.answer.Refusal.the-variants.{EmptySegment, Overflow, AlreadyAliased, NoSlot, FrontCut, OutOfOrder, Repeated, OthersTouched}
+use Rattle.definitions.specs.declared.answer.Refusal.the-variants.{EmptySegment, Overflow, AlreadyAliased, NoSlot, Repeated, OthersTouched}
 use Rattle.definitions.specs.declared.answer.Answer.{Answer}
-use Rattle.definitions.specs.declared.answer.Answer.the-variants.{Accepted, Refused}
+use Rattle.definitions.specs.declared.answer.Answer.the-variants.{Accepted}
 use Rattle.capability_engine.specs.declared.remapper.Remapper.{Remapper}
 use Rattle.capability_engine.specs.declared.remapper.Span.{Span}
 use Rattle.capability_engine.specs.declared.remapper.Span.the-variants.{Host, Guest}
@@ -23,8 +23,8 @@ use Rattle.capability_engine.specs.declared.remapper.Change.{Change}
 use Rattle.capability_engine.specs.declared.remapper.Change.the-variants.{Keep, Put, Cut}
 use Rattle.capability_engine.specs.declared.remapper.Changed.{Changed}
 use Rattle.capability_engine.specs.declared.remapper.Asked.{Asked}
-use Rattle.capability_engine.specs.RemapHeld.{Holds, Sound}
-use Rattle.capability_engine.specs.RemapAsking.{inRange}
+use Rattle.capability_engine.specs.RemapHeld.{noSegment, Holds, Sound}
+use Rattle.capability_engine.specs.RemapAsking.{inRange, rearOf, badFor, lastOf}
 
 -- a changing call, with the definitions' answer and the list that they leave
 pub record Does (self : Remapper) (a : Answer) (ss : List Segment) (r : Changed) : Type 0 where
@@ -36,46 +36,44 @@ pub record Does (self : Remapper) (a : Answer) (ss : List Segment) (r : Changed)
 abbrev pub done : Remapper → Changed
 done out = record { answer = Accepted 0; remapper = out }
 
--- a segment is put in its place: a new one is asked 11 and 12, and not stored where it shows an identity
-abbrev pub onInsert : Bool → Segment → List Segment → Answer
-onInsert true s ss =
+-- a new segment is asked 11 and 12, and not stored where it shows an identity
+abbrev pub onInsert : Segment → List Segment → Answer
+onInsert s ss =
     ask ((not (overlaps (s .gpa) (s .size * s .repeat) ss), AlreadyAliased) ∷ [])
     (if isIdentity (s .hpa) (s .gpa) (s .repeat) then Accepted 0 else ask ((length ss <? 64, NoSlot) ∷ []) (Accepted 0))
-onInsert false s ss = Accepted 0
 
-abbrev pub inserted : Bool → Segment → List Segment → List Segment
-inserted true s ss = mapped (s .hpa) (s .gpa) (s .size) (s .repeat) ss
-inserted false s ss = place s ss
+abbrev pub inserted : Segment → List Segment → List Segment
+inserted s ss = mapped (s .hpa) (s .gpa) (s .size) (s .repeat) ss
 
-abbrev pub Inserts : Remapper → Segment → Bool → Changed → Type 0
-Inserts self s new r =
-    (ss : List Segment) → Holds self ss → (new ≡ false → length ss < 64) → Does self (onInsert new s ss) (inserted new s ss) r
+abbrev pub Inserts : Remapper → Segment → Changed → Type 0
+Inserts self s r = (ss : List Segment) → Holds self ss → Does self (onInsert s ss) (inserted s ss) r
+
+-- a range that is not empty is cut out
+abbrev pub cutTo : Span → List Segment → List Segment
+cutTo (Host a e) ss = placeAll (each (hostParts a e) ss) []
+cutTo (Guest a e) ss = placeAll (each (spanParts a e) ss) []
+
+-- it can be: 12 and 15 get a yes; and the last part that is moved up is u
+pub record Builds (p : Span) (u : Segment) (ss : List Segment) : Type 0 where
+  pub fine : any (badFor p) ss ≡ false
+  pub few : length (cutTo p ss) ≤ 64
+  pub last : u ≡ lastOf (each (rearOf p) ss) noSegment
 
 -- the questions of unmap_range from 12 on, and of unmap_gpa_range from 15 on
 unfoldable pub onHost : List Segment → HostAddr → HostAddr → Answer
-onHost ss a e =
-    ask
-    ((not (any (hostInside a e) ss) || (length ss <? 64), NoSlot) ∷ (not (any (frontCut a e) ss), FrontCut)
-    ∷ (inOrder (hostCut a e ss), OutOfOrder) ∷ [])
-    (Accepted 0)
+onHost ss a e = ask ((length (cutTo (Host a e) ss) ≤? 64, NoSlot) ∷ []) (Accepted 0)
 
 unfoldable pub onSpan : List Segment → GuestAddr → GuestAddr → Answer
 onSpan ss a e =
     ask
     ((all (λ s. spanWhole a e s || (s .repeat =? 1)) (keep (touched a e) ss), Repeated)
     ∷ (not (any (spanInside a e) ss) || (length (keep (touched a e) ss) =? 1), OthersTouched)
-    ∷ (not (any (spanInside a e) ss) || (length ss <? 64), NoSlot)
-    ∷ (inOrder (spanCut a e ss), OutOfOrder) ∷ [])
+    ∷ (length (cutTo (Guest a e) ss) ≤? 64, NoSlot) ∷ [])
     (Accepted 0)
 
--- a range is cut out
 abbrev pub onCut : Span → List Segment → Answer
 onCut (Host a e) ss = onHost ss a e
 onCut (Guest a e) ss = onSpan ss a e
-
-abbrev pub cutTo : Span → List Segment → List Segment
-cutTo (Host a e) ss = hostCut a e ss
-cutTo (Guest a e) ss = spanCut a e ss
 
 abbrev pub CutsOut : Remapper → Span → Changed → Type 0
 CutsOut self p r = (ss : List Segment) → Sound self ss → Does self (onCut p ss) (cutTo p ss) r
@@ -85,8 +83,8 @@ pub record ToPut (self : Remapper) (a : Answer) (ss : List Segment) (s : Segment
   pub good : Good s
   pub before : List Segment
   pub held : Holds self before
-  pub asks : onInsert true s before ≡ a
-  pub leaves : inserted true s before ≡ ss
+  pub asks : onInsert s before ≡ a
+  pub leaves : inserted s before ≡ ss
 
 pub record ToCut (self : Remapper) (a : Answer) (ss : List Segment) (p : Span) : Type 0 where
   pub range : inRange p
@@ -122,25 +120,10 @@ canMap h g n t =
     (((1 ≤? n) && (1 ≤? t), EmptySegment) ∷ (fits (n * t) && fits (g .0 + n * t) && fits (h .0 + n), Overflow) ∷ [])
     (Accepted 0)
 
-unfoldable pub canUnmap : Asked → ℕ → Answer
-canUnmap k used = ask ((not (k .split) || (used <? 64), NoSlot) ∷ (not (k .bad), FrontCut) ∷ []) (Accepted 0)
-
 -- of an empty list, or of size 0, nothing is asked; 1 to go on
 unfoldable pub canStart : Bool → GuestAddr → ℕ → Answer
 canStart empty g n = if empty || (n =? 0) then Accepted 0 else ask ((fits (g .0 + n), Overflow) ∷ []) (Accepted 1)
 
--- behind 15, question 16 gets a yes
-unfoldable pub canUnmapGpa : Asked → ℕ → Answer
-canUnmapGpa k used =
-    ask
-    ((not (k .bad), Repeated) ∷ (not (k .split) || (used <? 64), NoSlot) ∷ [])
-    (Accepted 0)
-
--- of both kinds of range, and then the order
-unfoldable pub canFirst : Span → Asked → ℕ → Answer
-canFirst (Host a e) k used = canUnmap k used
-canFirst (Guest a e) k used = canUnmapGpa k used
-
-unfoldable pub thenOrder : Answer → Bool → Answer
-thenOrder (Accepted v) sorted = if sorted then Accepted 0 else Refused OutOfOrder
-thenOrder (Refused w) sorted = Refused w
+-- of an unmap: behind 15, question 16 gets a yes
+unfoldable pub canCut : Asked → Answer
+canCut k = ask ((not (k .bad), Repeated) ∷ (k .left + k .moved ≤? 64, NoSlot) ∷ []) (Accepted 0)

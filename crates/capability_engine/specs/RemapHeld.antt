@@ -2,11 +2,12 @@
 use Prim.Native.Nat.{ℕ, zero, suc, _+_}
 use mathlib.Core.Path.{_≡_}
 use mathlib.Core.List.{List, [], _∷_, _++_}
-use mathlib.Core.Bool.{cond}
+use mathlib.Core.Bool.{true, cond}
 use lib.Dec.{ltb, eqb}
 use lib.ListN.{length, getD, set}
 use Rattle.free_list.specs.Stack.{FreeListCall, after}
 use Rattle.free_list.specs.Grown.{Grown}
+use Rattle.definitions.specs.Segments.{inOrder}
 use Rattle.definitions.proofs.SegmentLaws.{AllGood}
 use Rattle.definitions.proofs.GuestLaws.{Unshared}
 use Rattle.definitions.specs.declared.remapper.Segment.{Segment}
@@ -53,9 +54,10 @@ pub record Holds (r : Remapper) (ss : List Segment) : Type 0 where
 abbrev pub IsHeld : Remapper → Type 0
 IsHeld r = (ss : List Segment) × Holds r ss
 
--- and the list is as calls leave it: where a segment with repeat 1 reaches a guest address, no other does
+-- and the list is as calls leave it: in host order, and where a segment with repeat 1 reaches a guest address, no other does
 pub record Sound (r : Remapper) (ss : List Segment) : Type 0 where
   pub held : Holds r ss
+  pub order : inOrder ss ≡ true
   pub unshared : Unshared ss
 
 abbrev pub IsSound : Remapper → Type 0
@@ -84,6 +86,10 @@ joinLinks links prev to = cond (ltb prev 64) (set links prev to) links
 
 abbrev pub joinHead : ℕ → ℕ → ℕ → ℕ
 joinHead head prev to = cond (ltb prev 64) head to
+
+-- what stands behind prev, or the head where prev is none
+abbrev pub behind : List ℕ → ℕ → ℕ → ℕ
+behind links head prev = cond (ltb prev 64) (getD links prev 0) head
 
 -- the slots that the links lead to, at most f of them
 abbrev pub follow : ℕ → List ℕ → ℕ → List ℕ

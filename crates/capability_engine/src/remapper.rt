@@ -1,6 +1,6 @@
 // remapper.rs: the segments of one compartment. 64 slots, the links between those in use, the free list of the others,
 // and the head. A link, a head or a slot of 64 means none. A remapper goes in by value; what changes it asks its questions and
-// makes the change in one function, since each that hands a remapper on copies it.
+// makes the change in one function, since each that hands a remapper on copies it. Only `build`, which is rare, is apart.
 use definitions::Answer;
 use definitions::GuestAddr;
 use definitions::HostAddr;
@@ -12,18 +12,19 @@ use free_list::Freed;
 ghost use mathlib.Core.Path.{_≡_};
 ghost use mathlib.Core.Bool.{true, false, cond, _&&_, _||_};
 ghost use mathlib.Core.List.{List, [], _∷_, _++_};
-ghost use Prim.Native.Nat.{ℕ, _+_, _*_, _<_, _≤_};
-ghost use lib.ListN.{length};
+ghost use Prim.Native.Nat.{ℕ, _+_, _-_, _*_, _<_, _≤_};
+ghost use lib.ListN.{length, set};
 ghost use lib.Seq.{sets};
 ghost use Rattle.free_list.specs.Stack.{FreeListCall};
 ghost use Rattle.free_list.specs.Grown.{Grown, IsGrown, Allocates, Frees};
 ghost use Rattle.definitions.proofs.SegmentLaws.{Good};
-ghost use Rattle.definitions.specs.Segments.{segment, isIdentity, hostEnd, spanEnd, front as frontOf, rest as restOf, hostInside, touched, spanWhole, spanInside};
-ghost use Rattle.definitions.specs.Questions.{frontCut};
+ghost use Rattle.definitions.specs.Tests.{_<?_, if_then_else_, bit};
+ghost use Rattle.definitions.specs.Segments.{segment, isIdentity, hostEnd, spanEnd, front as frontOf, rest as restOf, touched, spanWhole};
 ghost use Rattle.definitions.specs.Pages.{segmentGroup};
-ghost use Rattle.capability_engine.specs.RemapHeld.{joinLinks, joinHead, Zip, Holds, IsHeld, IsSound};
-ghost use Rattle.capability_engine.specs.RemapAsking.{leftHost, leftGuest, leftOf, okGuest, okFor, askHost, askGuest, askStep, inRange, orderAt, orderStep, nothingFound, findStep, hasHalf, repeats, halfOf};
-ghost use Rattle.capability_engine.specs.RemapAnswers.{Does, Decides, canMap, canUnmap, canStart, canUnmapGpa, canFirst, thenOrder, Inserts, CutsOut, Overlaps, Maps, Unmaps, UnmapsGpa};
+ghost use Rattle.capability_engine.specs.RemapHeld.{joinLinks, joinHead, behind, Holds, IsHeld, Sound, IsSound};
+ghost use Rattle.capability_engine.specs.declared.remapper.Span.the-variants.{Host, Guest};
+ghost use Rattle.capability_engine.specs.RemapAsking.{inRange, repeats, reachOf, badFor, leaves, moves, noneAsked, askStep};
+ghost use Rattle.capability_engine.specs.RemapAnswers.{Does, Decides, canMap, canStart, canCut, Inserts, cutTo, Builds, CutsOut, Overlaps, Maps, Unmaps, UnmapsGpa};
 ghost use Rattle.capability_engine.specs.RemapListing.{Copied, IsAhead, Starts, Steps};
 
 pub struct Remapper {
@@ -65,34 +66,27 @@ pub(crate) enum Span {
     Guest(GuestAddr, GuestAddr),
 }
 
-// What is left of a segment in its place.
+// What is left of a segment in its place. Its part behind the range, with host and guest starts moved up, leaves that place.
 pub(crate) enum Left {
     Gone,
     Kept(Segment),
-    Two(Segment, Segment),
 }
 
-// What the questions of an unmap want to know of the list.
+// Does a range share an address with a segment, and which of the segment's addresses, counted from its start, are the first
+// that go and the first that stay again? 0 where that lies below the start.
+pub(crate) struct Reach {
+    pub(crate) touches: bool,
+    pub(crate) from: u64,
+    pub(crate) to: u64,
+}
+
+// What the questions of an unmap want to know of the list: how many parts are left in their place, how many are moved up and the
+// last of these, and whether there is what question 15 refuses.
 pub(crate) struct Asked {
-    // one becomes two, and its second half, of a guest range
-    pub(crate) split: bool,
-    pub(crate) half: Segment,
-    // what question 13 or 15 refuses
+    pub(crate) left: usize,
+    pub(crate) moved: usize,
+    pub(crate) up: Segment,
     pub(crate) bad: bool,
-}
-
-// Are the segments that a range leaves in the order of their host addresses, so far? The last one's address, and whether one
-// became two, behind which all are left as they are.
-pub(crate) struct Order {
-    pub(crate) last: u64,
-    pub(crate) sorted: bool,
-    pub(crate) two: bool,
-}
-
-// What a walk has found out so far for an unmap.
-pub(crate) struct Found {
-    pub(crate) asked: Asked,
-    pub(crate) order: Order,
 }
 
 const MOST: u64 = 18446744073709551615;
@@ -108,6 +102,20 @@ fn join(links: &mut [u8; 64], head: usize, prev: usize, to: usize) -> usize
     } else {
         to
     }
+}
+
+// Slot x comes behind slot prev, or becomes the head where prev is none.
+fn link(links: &mut [u8; 64], head: usize, prev: usize, x: usize) -> usize
+    requires { ⌜ (head ≤ 64) × (x < 64) ⌝ }
+    ensures { λ r. ⌜ (now (links .exit) ≡ joinLinks (set (now (links .entry)) x (behind (now (links .entry)) head prev)) prev x) × (r ≡ joinHead head prev x) ⌝ }
+{
+    if prev < 64 {
+        links[x] = links[prev];
+        links[prev] = x as u8;
+        return head;
+    }
+    links[x] = head as u8;
+    x
 }
 
 // The free list's two calls on the whole array.
@@ -192,23 +200,6 @@ fn rest(n: u64, s: Segment) -> Segment
     }
 }
 
-fn is_host_inside(start: HostAddr, end: HostAddr, s: Segment) -> bool
-    requires { ⌜ Good s ⌝ }
-    ensures { λ r. ⌜ r ≡ hostInside start end s ⌝ }
-{
-    let h = s.hpa.0;
-    and(h < start.0, end.0 < host_end(s))
-}
-
-// What question 13 refuses.
-fn is_front_cut(start: HostAddr, end: HostAddr, s: Segment) -> bool
-    requires { ⌜ Good s ⌝ }
-    ensures { λ r. ⌜ r ≡ frontCut start end s ⌝ }
-{
-    let h = s.hpa.0;
-    and(and(start.0 <= h, h < end.0), end.0 < host_end(s))
-}
-
 // Do the range and the segment's guest span share an address?
 fn is_touched(start: GuestAddr, end: GuestAddr, s: Segment) -> bool
     requires { ⌜ Good s ⌝ }
@@ -226,14 +217,6 @@ fn is_span_whole(start: GuestAddr, end: GuestAddr, s: Segment) -> bool
     and(start.0 <= g, span_end(s) <= end.0)
 }
 
-fn is_span_inside(start: GuestAddr, end: GuestAddr, s: Segment) -> bool
-    requires { ⌜ Good s ⌝ }
-    ensures { λ r. ⌜ r ≡ spanInside start end s ⌝ }
-{
-    let g = s.gpa.0;
-    and(g < start.0, end.0 < span_end(s))
-}
-
 // Touched, not wholly covered, and repeated: what question 15 refuses.
 fn is_repeated(start: GuestAddr, end: GuestAddr, s: Segment) -> bool
     requires { ⌜ Good s ⌝ }
@@ -245,177 +228,138 @@ fn is_repeated(start: GuestAddr, end: GuestAddr, s: Segment) -> bool
     and(hit, and(!w, t != 1))
 }
 
-// The second half of a segment that becomes two, or else the one before it.
-fn second(start: GuestAddr, end: GuestAddr, s: Segment, half: Segment) -> Segment
-    requires { ⌜ Good s × (start .0 ≤ end .0) ⌝ }
-    ensures { λ r. ⌜ r ≡ halfOf start end s half ⌝ }
+// How far a lies past b.
+fn past(a: u64, b: u64) -> u64
+    ensures { λ r. ⌜ r ≡ a - b ⌝ }
 {
-    let t = s.repeat;
-    let d = is_span_inside(start, end, s);
-    if and(d, t == 1) {
-        let g = s.gpa.0;
-        rest(end.0 - g, s)
-    } else {
-        half
-    }
+    if b < a { a - b } else { 0 }
 }
 
-// What a host range leaves of a segment.
-fn leave_host(start: HostAddr, end: HostAddr, s: Segment) -> Left
-    requires { ⌜ Good s × (start .0 ≤ end .0) ⌝ }
-    ensures { λ r. ⌜ r ≡ leftHost start end s ⌝ }
+fn reach_host(start: HostAddr, end: HostAddr, s: Segment) -> Reach
+    requires { ⌜ Good s ⌝ }
+    ensures { λ r. ⌜ r ≡ reachOf (Host start end) s ⌝ }
 {
-    let a = start.0;
-    let e = end.0;
     let h = s.hpa.0;
-    let z = host_end(s);
-    if a <= h {
-        if z <= e {
-            return Left::Gone;
-        }
-        return Left::Kept(s);
-    }
-    if e < z {
-        return Left::Two(front(a - h, s), rest(e - h, s));
-    }
-    if a < z {
-        return Left::Kept(front(a - h, s));
-    }
-    Left::Kept(s)
+    let touches = and(start.0 < host_end(s), h < end.0);
+    let from = past(start.0, h);
+    let to = past(end.0, h);
+    Reach { touches, from, to }
 }
 
-// What a guest range leaves of a segment in its place.
-fn leave_guest(start: GuestAddr, end: GuestAddr, s: Segment) -> Left
-    requires { ⌜ Good s × (okGuest start end s ≡ true) ⌝ }
-    ensures { λ r. ⌜ r ≡ leftGuest start end s ⌝ }
+fn reach_guest(start: GuestAddr, end: GuestAddr, s: Segment) -> Reach
+    requires { ⌜ Good s ⌝ }
+    ensures { λ r. ⌜ r ≡ reachOf (Guest start end) s ⌝ }
 {
-    let a = start.0;
-    let e = end.0;
     let g = s.gpa.0;
-    let z = span_end(s);
-    if z <= a {
-        return Left::Kept(s);
+    let touches = is_touched(start, end, s);
+    let from = past(start.0, g);
+    let to = past(end.0, g);
+    Reach { touches, from, to }
+}
+
+fn reach_of(span: Span, s: Segment) -> Reach
+    requires { ⌜ Good s ⌝ }
+    ensures { λ r. ⌜ r ≡ reachOf span s ⌝ }
+{
+    match span {
+        Span::Host(start, end) => reach_host(start, end, s),
+        Span::Guest(start, end) => reach_guest(start, end, s),
     }
-    if e <= g {
-        return Left::Kept(s);
+}
+
+// What question 15 refuses, of a guest range.
+fn is_bad(span: Span, s: Segment) -> bool
+    requires { ⌜ Good s ⌝ }
+    ensures { λ r. ⌜ r ≡ badFor span s ⌝ }
+{
+    match span {
+        Span::Host(_, _) => false,
+        Span::Guest(start, end) => is_repeated(start, end, s),
     }
-    if g < a {
-        return Left::Kept(front(a - g, s));
-    }
-    if z <= e {
-        return Left::Gone;
-    }
-    Left::Kept(rest(e - g, s))
 }
 
 // What a range leaves of a segment in its place.
 fn leave(span: Span, s: Segment) -> Left
-    requires { ⌜ Good s × inRange span × (okFor span s ≡ true) ⌝ }
-    ensures { λ r. ⌜ r ≡ leftOf span s ⌝ }
+    requires { ⌜ Good s ⌝ }
+    ensures { λ r. ⌜ r ≡ leaves (reachOf span s) s ⌝ }
 {
-    match span {
-        Span::Host(start, end) => leave_host(start, end, s),
-        Span::Guest(start, end) => leave_guest(start, end, s),
+    let r = reach_of(span, s);
+    if r.touches {
+        if r.from < 1 {
+            return Left::Gone;
+        }
+        return Left::Kept(front(r.from, s));
+    }
+    Left::Kept(s)
+}
+
+// Is a part moved up?
+fn is_moved(r: Reach, s: Segment) -> bool
+    ensures { λ b. ⌜ b ≡ moves r s ⌝ }
+{
+    and(r.touches, r.to < s.size)
+}
+
+fn count_if(b: bool, n: usize) -> usize
+    requires { ⌜ n < 64 ⌝ }
+    ensures { λ r. ⌜ r ≡ bit b + n ⌝ }
+{
+    if b { n + 1 } else { n }
+}
+
+// The walk that asks, before the first segment.
+fn none_asked() -> Asked
+    ensures { λ r. ⌜ r ≡ noneAsked ⌝ }
+{
+    let up = new_segment(HostAddr(0), GuestAddr(0), 0, 0);
+    Asked {
+        left: 0,
+        moved: 0,
+        up,
+        bad: false,
     }
 }
 
-// The questions of a host range, of one segment more.
-fn ask_host(start: HostAddr, end: HostAddr, k: Asked, s: Segment) -> Asked
-    requires { ⌜ Good s ⌝ }
-    ensures { λ r. ⌜ r ≡ askHost start end k s ⌝ }
-{
-    let half = k.half;
-    let split = or(k.split, is_host_inside(start, end, s));
-    let bad = or(k.bad, is_front_cut(start, end, s));
-    Asked { split, half, bad }
-}
-
-// The questions of a guest range, of one segment more.
-fn ask_guest(start: GuestAddr, end: GuestAddr, k: Asked, s: Segment) -> Asked
-    requires { ⌜ Good s × (start .0 ≤ end .0) ⌝ }
-    ensures { λ r. ⌜ r ≡ askGuest start end k s ⌝ }
-{
-    let split = or(k.split, is_span_inside(start, end, s));
-    let bad = or(k.bad, is_repeated(start, end, s));
-    let before = k.half;
-    let half = second(start, end, s, before);
-    Asked { split, half, bad }
-}
-
+// The questions, of one segment more. Most are not touched.
 fn ask_one(span: Span, k: Asked, s: Segment) -> Asked
-    requires { ⌜ Good s × inRange span ⌝ }
+    requires { ⌜ Good s × (k .left < 64) × (k .moved < 64) ⌝ }
     ensures { λ r. ⌜ r ≡ askStep span k s ⌝ }
 {
-    match span {
-        Span::Host(start, end) => ask_host(start, end, k, s),
-        Span::Guest(start, end) => ask_guest(start, end, k, s),
+    let r = reach_of(span, s);
+    let before = k.up;
+    if !r.touches {
+        return Asked {
+            left: k.left + 1,
+            moved: k.moved,
+            up: before,
+            bad: k.bad,
+        };
+    }
+    let left = count_if(1 <= r.from, k.left);
+    let bad = or(k.bad, is_bad(span, s));
+    if is_moved(r, s) {
+        let up = rest(r.to, s);
+        return Asked {
+            left,
+            moved: k.moved + 1,
+            up,
+            bad,
+        };
+    }
+    Asked {
+        left,
+        moved: k.moved,
+        up: before,
+        bad,
     }
 }
 
-// One more is left, with this host address.
-fn left_at(o: Order, h: u64) -> Order
-    ensures { λ r. ⌜ r ≡ orderAt o h ⌝ }
+// The last slot so far with a host address below that of u.
+fn last_below(u: Segment, s: Segment, at: usize, last: usize) -> usize
+    ensures { λ r. ⌜ r ≡ (if s .hpa .0 <? u .hpa .0 then at else last) ⌝ }
 {
-    let sorted = and(o.sorted, o.last <= h);
-    Order {
-        last: h,
-        sorted,
-        two: o.two,
-    }
-}
-
-// The order of what is left, of one segment more. Where question 13 or 15 refuses, it is not asked.
-fn ask_order(span: Span, bad: bool, o: Order, s: Segment) -> Order
-    requires { ⌜ Good s × inRange span × (bad ≡ false → okFor span s ≡ true) ⌝ }
-    ensures { λ r. ⌜ r ≡ orderStep span bad o s ⌝ }
-{
-    if bad {
-        return o;
-    }
-    if o.two {
-        return left_at(o, s.hpa.0);
-    }
-    let l = leave(span, s);
-    match l {
-        Left::Gone => o,
-        Left::Kept(t) => left_at(o, t.hpa.0),
-        Left::Two(t, u) => {
-            let both = left_at(left_at(o, t.hpa.0), u.hpa.0);
-            Order {
-                last: both.last,
-                sorted: both.sorted,
-                two: true,
-            }
-        }
-    }
-}
-
-// The walk of an unmap that has met no segment.
-fn first_found() -> Found
-    ensures { λ r. ⌜ r ≡ nothingFound ⌝ }
-{
-    let half = new_segment(HostAddr(0), GuestAddr(0), 0, 0);
-    let asked = Asked {
-        split: false,
-        half,
-        bad: false,
-    };
-    let order = Order {
-        last: 0,
-        sorted: true,
-        two: false,
-    };
-    Found { asked, order }
-}
-
-// The questions and the order, of one segment more.
-fn find_one(span: Span, f: Found, s: Segment) -> Found
-    requires { ⌜ Good s × inRange span ⌝ }
-    ensures { λ r. ⌜ r ≡ findStep span f s ⌝ }
-{
-    let asked = ask_one(span, f.asked, s);
-    let order = ask_order(span, asked.bad, f.order, s);
-    Found { asked, order }
+    let h = s.hpa.0;
+    if h < u.hpa.0 { at } else { last }
 }
 
 // ---- questions that need no walk
@@ -451,19 +395,6 @@ fn can_map(hpa: HostAddr, gpa: GuestAddr, size: u64, repeat: u64) -> Answer
     Answer::Accepted(0)
 }
 
-// Questions 12 and 13 of a host range, with so many slots in use.
-fn can_unmap(k: Asked, used: usize) -> Answer
-    ensures { λ r. ⌜ r ≡ canUnmap k used ⌝ }
-{
-    if and(k.split, 64 <= used) {
-        return Answer::Refused(Refusal::NoSlot);
-    }
-    if k.bad {
-        return Answer::Refused(Refusal::FrontCut);
-    }
-    Answer::Accepted(0)
-}
-
 // A guest range: of an empty list, or of size 0, nothing is asked, and the value is 0. Question 10, and 1 to go on.
 fn can_start(empty: bool, gpa: GuestAddr, size: u64) -> Answer
     ensures { λ r. ⌜ r ≡ canStart empty gpa size ⌝ }
@@ -478,58 +409,18 @@ fn can_start(empty: bool, gpa: GuestAddr, size: u64) -> Answer
     Answer::Accepted(1)
 }
 
-// Questions 15 and 12 of a guest range, with so many slots in use. Behind 15, question 16 never gets a no.
-fn can_unmap_gpa(k: Asked, used: usize) -> Answer
-    ensures { λ r. ⌜ r ≡ canUnmapGpa k used ⌝ }
+// Questions 15 and 12 of an unmap. Behind 15, question 16 never gets a no.
+fn can_cut(k: Asked) -> Answer
+    requires { ⌜ (k .left ≤ 64) × (k .moved ≤ 64) ⌝ }
+    ensures { λ r. ⌜ r ≡ canCut k ⌝ }
 {
     if k.bad {
         return Answer::Refused(Refusal::Repeated);
     }
-    if and(k.split, 64 <= used) {
+    if 64 < k.left + k.moved {
         return Answer::Refused(Refusal::NoSlot);
     }
     Answer::Accepted(0)
-}
-
-// The questions of an unmap before the order.
-fn can_first(span: Span, k: Asked, used: usize) -> Answer
-    ensures { λ r. ⌜ r ≡ canFirst span k used ⌝ }
-{
-    match span {
-        Span::Host(_, _) => can_unmap(k, used),
-        Span::Guest(_, _) => can_unmap_gpa(k, used),
-    }
-}
-
-// And question 14.
-fn can_cut(span: Span, f: Found, used: usize) -> Answer
-    ensures { λ r. ⌜ r ≡ thenOrder (canFirst span (f .asked) used) (f .order .sorted) ⌝ }
-{
-    let first = can_first(span, f.asked, used);
-    let Answer::Accepted(_) = first else {
-        return first;
-    };
-    if f.order.sorted {
-        return Answer::Accepted(0);
-    }
-    Answer::Refused(Refusal::OutOfOrder)
-}
-
-// Is a second half placed as a new segment? A host range leaves both halves in their place.
-fn has_half(span: Span, f: Found) -> bool
-    ensures { λ r. ⌜ r ≡ hasHalf span f ⌝ }
-{
-    match span {
-        Span::Host(_, _) => false,
-        Span::Guest(_, _) => f.asked.split,
-    }
-}
-
-// Where the walk begins that asks a new segment whether it aliases another: at 64, so nowhere, for one that is not new.
-fn asked_from(new: bool, head: usize) -> usize
-    ensures { λ r. ⌜ r ≡ cond new head 64 ⌝ }
-{
-    if new { head } else { 64 }
 }
 
 pub(crate) fn put_segment(out: &mut [u64], n: usize, s: Segment)
@@ -566,35 +457,16 @@ impl Remapper {
         }
     }
 
-    // A segment goes into a free slot, between prev and at.
-    fn link_in(self, prev: usize, at: usize, s: Segment) -> Remapper
-        requires { ⌜ ((done : List Segment) × (ts : List Segment) × Zip self prev at done ts × (length done + length ts < 64)) ⌝ }
-        ensures { λ r. ⌜ ((done ts : List Segment) → Zip self prev at done ts → length done + length ts < 64 → Good s → Holds r (done ++ (s ∷ ts))) ⌝ }
-    {
-        let mut out = self;
-        let list = out.list;
-        let x = list.head;
-        out.segments[x] = s;
-        out.links[x] = at as u8;
-        let head = out.head;
-        let first = join(&mut out.links, head, prev, x);
-        out.head = first;
-        let a = take_slot(&mut out.free, list);
-        let rest = a.list;
-        out.list = rest;
-        out
-    }
-
-    // A segment is put in its place, after its equals. A new one is asked 11 first, is not stored where it shows an identity, and
-    // is asked 12; for any other there is a free slot.
-    pub(crate) fn insert_segment(self, s: Segment, new: bool) -> Changed
-        requires { ⌜ Good s × ((ss : List Segment) × Holds self ss × (new ≡ false → length ss < 64)) ⌝ }
-        ensures { λ r. ⌜ Inserts self s new r ⌝ }
+    // A new segment is put in its place, after its equals. It is asked 11 first, is not stored where it shows an identity, and is
+    // asked 12.
+    pub(crate) fn insert_segment(self, s: Segment) -> Changed
+        requires { ⌜ Good s × IsHeld self ⌝ }
+        ensures { λ r. ⌜ Inserts self s r ⌝ }
     {
         let mut out = self;
         let start = s.gpa;
         let end = GuestAddr(span_end(s));
-        let mut asking = asked_from(new, out.head);
+        let mut asking = out.head;
         while asking < 64 {
             let t = out.segments[asking];
             if is_touched(start, end, t) {
@@ -605,14 +477,14 @@ impl Remapper {
             }
             asking = out.links[asking] as usize;
         }
-        if and(new, is_identity(s.hpa, start, s.repeat)) {
+        if is_identity(s.hpa, start, s.repeat) {
             return Changed {
                 remapper: out,
                 answer: Answer::Accepted(0),
             };
         }
         let list = out.list;
-        if and(new, 64 <= list.count) {
+        if 64 <= list.count {
             return Changed {
                 remapper: out,
                 answer: Answer::Refused(Refusal::NoSlot),
@@ -647,67 +519,112 @@ impl Remapper {
         }
     }
 
-    // A range is cut out of each segment: the questions in one walk, and then another in which each becomes what is left of it.
+    // What a range leaves, as a list made anew: what stays of each segment in its place, and then what is moved up, all of it to the
+    // host address of up. Only for several parts that are moved, since it costs another list.
+    fn build(self, span: Span, up: Segment) -> Remapper
+        requires { ⌜ inRange span × ((ss : List Segment) × Sound self ss × Builds span up ss) ⌝ }
+        ensures { λ r. ⌜ ((ss : List Segment) → Sound self ss → Builds span up ss → Holds r (cutTo span ss)) ⌝ }
+    {
+        let mut out = Remapper::new();
+        let mut head: usize = 64;
+        let mut list = out.list;
+        let mut prev: usize = 64;
+        let mut last: usize = 64;
+        let mut at = self.head;
+        while at < 64 {
+            let s = self.segments[at];
+            at = self.links[at] as usize;
+            let l = leave(span, s);
+            if let Left::Kept(t) = l {
+                let x = list.head;
+                out.segments[x] = t;
+                head = link(&mut out.links, head, prev, x);
+                let a = take_slot(&mut out.free, list);
+                list = a.list;
+                last = last_below(up, t, x, last);
+                prev = x;
+            }
+        }
+        let mut moving = self.head;
+        while moving < 64 {
+            let s = self.segments[moving];
+            moving = self.links[moving] as usize;
+            let r = reach_of(span, s);
+            if is_moved(r, s) {
+                let x = list.head;
+                let u = rest(r.to, s);
+                out.segments[x] = u;
+                head = link(&mut out.links, head, last, x);
+                let a = take_slot(&mut out.free, list);
+                list = a.list;
+                last = x;
+            }
+        }
+        out.head = head;
+        out.list = list;
+        out
+    }
+
+    // A range is cut out of each segment. One walk asks the questions. Another leaves of each what stays in its place, and the slots
+    // of those that go are free then; what is moved up goes behind the last with a lower host address.
     pub(crate) fn cut(self, span: Span) -> Changed
         requires { ⌜ inRange span × IsSound self ⌝ }
         ensures { λ r. ⌜ CutsOut self span r ⌝ }
     {
-        let mut out = self;
-        let mut f = first_found();
-        let mut asking = out.head;
+        let mut remapper = self;
+        let mut k = none_asked();
+        let mut asking = remapper.head;
         while asking < 64 {
-            let s = out.segments[asking];
-            f = find_one(span, f, s);
-            asking = out.links[asking] as usize;
+            let s = remapper.segments[asking];
+            k = ask_one(span, k, s);
+            asking = remapper.links[asking] as usize;
         }
-        let used = out.list;
-        let answer = can_cut(span, f, used.count);
+        let answer = can_cut(k);
         let Answer::Accepted(_) = answer else {
-            return Changed {
-                remapper: out,
-                answer,
-            };
+            return Changed { remapper, answer };
         };
+        let up = k.up;
+        if 1 < k.moved {
+            let remapper = remapper.build(span, up);
+            return Changed { remapper, answer };
+        }
+        let mut head = remapper.head;
+        let mut list = remapper.list;
         let mut prev: usize = 64;
-        let mut at = out.head;
+        let mut last: usize = 64;
+        let mut at = head;
         while at < 64 {
-            let s = out.segments[at];
-            let next = out.links[at] as usize;
+            let s = remapper.segments[at];
+            let next = remapper.links[at] as usize;
             let l = leave(span, s);
             match l {
                 Left::Gone => {
-                    let head = out.head;
-                    let first = join(&mut out.links, head, prev, next);
-                    out.head = first;
-                    let list = out.list;
-                    let freed = free_slot(&mut out.free, list, at);
-                    let more = freed.list;
-                    out.list = more;
+                    head = join(&mut remapper.links, head, prev, next);
+                    let freed = free_slot(&mut remapper.free, list, at);
+                    list = freed.list;
                     at = next;
                 }
                 Left::Kept(t) => {
-                    out.segments[at] = t;
+                    remapper.segments[at] = t;
+                    last = last_below(up, t, at, last);
                     prev = at;
                     at = next;
                 }
-                Left::Two(t, u) => {
-                    out.segments[at] = t;
-                    let linked = out.link_in(at, next, u);
-                    return Changed {
-                        remapper: linked,
-                        answer: Answer::Accepted(0),
-                    };
-                }
             }
         }
-        if has_half(span, f) {
-            let half = f.asked.half;
-            return out.insert_segment(half, false);
+        remapper.head = head;
+        remapper.list = list;
+        if k.moved < 1 {
+            return Changed { remapper, answer };
         }
-        Changed {
-            remapper: out,
-            answer: Answer::Accepted(0),
-        }
+        let x = list.head;
+        remapper.segments[x] = up;
+        let first = link(&mut remapper.links, head, last, x);
+        remapper.head = first;
+        let a = take_slot(&mut remapper.free, list);
+        let less = a.list;
+        remapper.list = less;
+        Changed { remapper, answer }
     }
 
     // Does a stored guest span share an address with the range? With an empty range none does.
@@ -747,7 +664,7 @@ impl Remapper {
         Change::Put(s)
     }
 
-    // Question 10; a range that passes is to be cut out.
+    // Question 10; a range that passes and is not empty is to be cut out.
     pub(crate) fn unmap_range(self, hpa: HostAddr, size: u64) -> Change
         requires { ⌜ IsHeld self ⌝ }
         ensures { λ r. ⌜ Unmaps self hpa size r ⌝ }
@@ -756,7 +673,11 @@ impl Remapper {
         if MOST - a < size {
             return Change::Keep(Answer::Refused(Refusal::Overflow));
         }
-        let span = Span::Host(hpa, HostAddr(a + size));
+        let end = a + size;
+        if end <= a {
+            return Change::Keep(Answer::Accepted(0));
+        }
+        let span = Span::Host(hpa, HostAddr(end));
         Change::Cut(span)
     }
 
@@ -779,7 +700,7 @@ impl Remapper {
         ensures { λ r. ⌜ ((a : Answer) (ss : List Segment) → Decides self a ss change → Does self a ss r) ⌝ }
     {
         match change {
-            Change::Put(s) => self.insert_segment(s, true),
+            Change::Put(s) => self.insert_segment(s),
             Change::Cut(span) => self.cut(span),
             Change::Keep(answer) => Changed {
                 remapper: self,

@@ -367,7 +367,7 @@ impl Tables {
                                 p = tell(out, p, answer);
                             }
                             Change::Put(segment) => {
-                                let r = remapper.insert_segment(segment, true);
+                                let r = remapper.insert_segment(segment);
                                 let answer = r.answer;
                                 p = tell(out, p, answer);
                                 if let Answer::Accepted(_) = answer {

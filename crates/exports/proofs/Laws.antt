@@ -16,7 +16,7 @@ use Rattle.definitions.specs.Calls.{State, start, compartment, streamOf, stream
 use Rattle.definitions.specs.Script.{Line, call, malformed, lineOf, linesOf, heading, mappingLine, mappingLines, printed, left, outputFrom, outputOf, wholeLines}
 use Rattle.definitions.specs.declared.remapper.Mapping.{Mapping}
 use Rattle.definitions.specs.declared.answer.Refusal.{Refusal}
-use Rattle.definitions.specs.declared.answer.Refusal.the-variants.{NoCompartment, InvalidMemOps, InvalidRange, CountFull, OutOfMemory, InvalidRegion, EndedBefore, CountEmpty, EmptySegment, Overflow, AlreadyAliased, NoSlot, FrontCut, OutOfOrder, Repeated, OthersTouched, Malformed}
+use Rattle.definitions.specs.declared.answer.Refusal.the-variants.{NoCompartment, InvalidMemOps, InvalidRange, CountFull, OutOfMemory, InvalidRegion, EndedBefore, CountEmpty, EmptySegment, Overflow, AlreadyAliased, NoSlot, Repeated, OthersTouched, Malformed}
 use Rattle.definitions.specs.declared.answer.Answer.{Answer}
 use Rattle.definitions.specs.declared.answer.Answer.the-variants.{Accepted, Refused}
 use Rattle.definitions.specs.declared.call.Call.{Call}
@@ -50,8 +50,6 @@ refusal-from EmptySegment = omega arith
 refusal-from Overflow = omega arith
 refusal-from AlreadyAliased = omega arith
 refusal-from NoSlot = omega arith
-refusal-from FrontCut = omega arith
-refusal-from OutOfOrder = omega arith
 refusal-from Repeated = omega arith
 refusal-from OthersTouched = omega arith
 refusal-from Malformed = omega arith

@@ -1,37 +1,35 @@
-use mathlib.Core.Path.{subst}
-use Rattle.capability_engine.specs.RemapAsking.{leftOf, inRange, okFor}
+use mathlib.Core.Path.{ap}
+use borrow.Author.Tests.{le-leb, lt-leb}
+use Rattle.capability_engine.specs.declared.remapper.Left.the-variants.{Kept}
+use Rattle.capability_engine.specs.RemapAsking.{leaves}
 use borrow.Author.Needs.{needs}
 use Rattle.capability_engine.proofs.remapper.leave.Statement.{statement}
 use Rattle.capability_engine.proofs.remapper.leave.Tie as tie
 
-enum-known-span : tie.Need-enum-known-span
-enum-known-span c = search needs
-
-leave-host-requires : tie.Need-leave-host-requires
-leave-host-requires c κs = (c .before .before .before .pre .0, subst inRange (c .before .span .given .1) (c .before .before .before .pre .1))
-
-enum-known-span-2 : tie.Need-enum-known-span-2
-enum-known-span-2 c = search needs
-
-leave-guest-requires : tie.Need-leave-guest-requires
-unfolding okFor
-leave-guest-requires c κs = (c .before .before .before .pre .0, rw (c .before .span2 .given .1) at (c .before .before .before .pre .2))
+reach-of-requires : tie.Need-reach-of-requires
+reach-of-requires c κs = search needs
 
 returns : tie.Need-returns
-unfolding leftOf
-returns c = rw (c .before .before .span .given .1) (c .leave-host .ensures)
+unfolding leaves
+returns c = rw (← c .before .before .before .reach-of .ensures, c .before .before .if1 .taken, lt-leb 1 _ (c .if2 .taken))
+
+front-requires : tie.Need-front-requires
+front-requires c κs = search needs
 
 returns-2 : tie.Need-returns-2
-unfolding leftOf
-returns-2 c = rw (c .before .before .span2 .given .1) (c .leave-guest .ensures)
+unfolding leaves
+returns-2 c = rw (← c .before .before .before .before .reach-of .ensures, c .before .before .before .if1 .taken, le-leb 1 _ (c .before .if2 .left)) (ap Kept (c .front .ensures))
+
+returns-3 : tie.Need-returns-3
+unfolding leaves
+returns-3 c = rw (← c .before .reach-of .ensures, c .if1 .left)
 
 pub leave-spec : {M : Type 1} → statement M
 leave-spec =
     tie.close
     (tie.spec
-    enum-known-span
-    leave-host-requires
-    enum-known-span-2
-    leave-guest-requires
+    reach-of-requires
     returns
-    returns-2)
+    front-requires
+    returns-2
+    returns-3)

@@ -1,4 +1,3 @@
-use mathlib.Core.Bool.{true≢false}
 use Rattle.capability_engine.proofs.RemapCalls.{as-put, as-cut, did-put, did-cut, did-keep}
 use borrow.Author.Needs.{needs}
 use Rattle.capability_engine.proofs.remapper.Remapper.apply.Statement.{statement}
@@ -8,7 +7,7 @@ enum-known-change : tie.Need-enum-known-change
 enum-known-change c = search needs
 
 insert-segment-requires : tie.Need-insert-segment-requires
-insert-segment-requires c κs = let w = as-put _ _ _ _ (c .before .before .before .pre .2) _ (c .before .change .given .1) in (w .good, (w .before, w .held, λ n. absurd (true≢false n)))
+insert-segment-requires c κs = let w = as-put _ _ _ _ (c .before .before .before .pre .2) _ (c .before .change .given .1) in (w .good, (w .before, w .held))
 
 enum-known-change-2 : tie.Need-enum-known-change-2
 enum-known-change-2 c = search needs
