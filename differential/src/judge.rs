@@ -133,6 +133,17 @@ impl Tables {
         self.remappers[k].remap(self.trackers[k].permissions(&self.pool))
     }
 
+    /// These tables but for the segments of one compartment, which are mapped anew in list order. None where the original does
+    /// not map them so: it sees an overlap of two parts of one repeated segment.
+    pub fn with_segments(mut self, k: usize, segments: &[u64]) -> Option<Tables> {
+        self.remappers[k] = Remapper::new();
+        for s in segments.chunks_exact(4) {
+            let [hpa, gpa, size, repeat] = [s[0], s[1], s[2], s[3]].map(|n| n as usize);
+            self.remappers[k].map_range(hpa, gpa, size, repeat).ok()?;
+        }
+        (self.segments(k) == segments).then_some(self)
+    }
+
     pub fn overlaps(&self, k: usize, start: u64, size: u64) -> bool {
         self.remappers[k].overlaps(start as usize, size as usize)
     }

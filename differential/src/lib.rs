@@ -1,5 +1,6 @@
 //! The original as judge of the port: scripts go through both, and every answer, list and stream is compared.
 pub mod compare;
+pub mod cuts;
 pub mod guests;
 pub mod judge;
 pub mod line;

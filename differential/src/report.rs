@@ -1,6 +1,6 @@
 //! What a run has seen, as a table, and the smallest script for each thing that the two sides do differently.
-use crate::compare::{check, lists, Asked, Class, Depth, Script, Tally};
-use crate::judge::{Said, Tables};
+use crate::compare::{check, Asked, Class, Depth, Script, Tally};
+use crate::judge::Tables;
 use crate::line::{self, Call};
 use crate::port::{self, List};
 use crate::shrink::smallest;
@@ -46,26 +46,25 @@ fn last_class(lines: &[Vec<u8>]) -> Option<Class> {
     tally.last
 }
 
-/// The calls of a script that the port accepts, and its last line.
-fn accepted(lines: &[Vec<u8>]) -> (Vec<Call>, Option<Call>) {
-    let mut calls = Vec::new();
-    let mut tables = Tables::default();
-    let before = &lines[..lines.len() - 1];
-    for call in before.iter().filter_map(|line| Call::parse(line)) {
-        if let Said::Value(_) = tables.say(&call) {
-            calls.push(call);
-        }
-    }
-    (calls, Call::parse(&lines[lines.len() - 1]))
+/// The calls before a script's last line that both sides accept, and the script without the named calls among them.
+fn accepted(lines: &[Vec<u8>]) -> (Vec<Call>, Vec<Vec<u8>>) {
+    let (last, before) = lines.split_last().expect("a script that shows something has a line");
+    let before = Script { lines: before.to_vec(), ..Script::default() };
+    let compared = check(&before, Depth::Output, &mut Tally::default()).expect("the run has compared it");
+    let mut lines = compared.script.into_owned().lines;
+    lines.push(last.clone());
+    (compared.accepted, lines)
 }
 
-/// Numbers in groups, as the paper writes them.
-fn groups(all: &[u64], width: usize) -> String {
+/// Numbers in groups, as the paper writes them. Of more than three, those are shown that the other side does not have.
+fn groups(all: &[u64], other: &[u64], width: usize) -> String {
     let group = |g: &[u64]| format!("({})", g.iter().map(u64::to_string).collect::<Vec<_>>().join(", "));
     let many = all.len() / width;
-    let mut shown: Vec<String> = all.chunks(width).take(3).map(group).collect();
-    if many > 3 {
-        shown.push(format!("and {} more", many - 3));
+    let own = |g: &&[u64]| many <= 3 || !other.chunks(width).any(|o| o == *g);
+    let mut shown: Vec<String> = all.chunks(width).filter(own).take(3).map(group).collect();
+    let more = many - shown.len();
+    if more > 0 {
+        shown.push(format!("{}{more} more", if shown.is_empty() { "" } else { "and " }));
     }
     if shown.is_empty() {
         "none".to_string()
@@ -95,36 +94,37 @@ fn shown(lines: &[Vec<u8>]) -> String {
 
 /// One row: the smallest script that ends in a class, and what both sides do at its last line.
 fn row(number: usize, class: &Class, lines: &[Vec<u8>]) -> String {
-    let (calls, last) = accepted(lines);
-    let text = line::text(lines);
+    let (calls, lines) = accepted(lines);
+    let last = lines.last().and_then(|line| Call::parse(line));
+    let text = line::text(&lines);
     let mut original = class.original.clone();
     let mut port = format!("answers {}", class.answer);
     if let Some(call) = last.filter(|call| call.compartment < 8) {
         let k = call.compartment as usize;
         let mut tables = Tables::after(&calls);
         tables.say(&call);
-        if class.altered {
-            let left = lists(&tables, k).map(|all| (groups(&all[2], 8), groups(&all[3], 4)));
-            let (records, segments) =
-                left.unwrap_or_else(|_| (groups(&tables.regions(k), 8), groups(&tables.segments(k), 4)));
-            let _ = write!(original, "; then records {records}, segments {segments}");
-            let ours = |list: List| groups(&port::whole(list, &text, k as u64), list.width());
-            let _ = write!(port, "; then records {}, segments {}", ours(List::Regions), ours(List::Segments));
+        if class.altered || class.named {
+            let theirs = [tables.regions(k), tables.segments(k)];
+            let ours = [List::Regions, List::Segments].map(|list| port::whole(list, &text, k as u64));
+            for (text, all, other) in [(&mut original, &theirs, &ours), (&mut port, &ours, &theirs)] {
+                let (records, segments) = (groups(&all[0], &other[0], 8), groups(&all[1], &other[1], 4));
+                let _ = write!(text, "; then records {records}, segments {segments}");
+            }
         } else {
             port.push_str("; no list is altered by either");
         }
     }
-    format!("| {number} | {} | {} | {port} |\n", shown(lines), original.replace('|', "\\|"))
+    format!("| {number} | {} | {} | {port} |\n", shown(&lines), original.replace('|', "\\|"))
 }
 
-/// The smallest script for each refusal that was seen, with what both sides do.
+/// The smallest script for each refusal and each named unmap that was seen, with what both sides do.
 pub fn differences(tally: &Tally) -> String {
     let mut out = String::from("| # | script | the original at its last line | the port |\n|---|---|---|---|\n");
-    let classes = tally.classes.iter().filter(|(class, _)| class.answer != 0);
-    for (number, (class, (_, example))) in classes.enumerate() {
+    let classes = || tally.classes.iter().filter(|(class, _)| class.answer != 0 || class.named);
+    for (number, (class, (_, example))) in classes().enumerate() {
         let holds = |lines: &[Vec<u8>]| last_class(lines).as_ref() == Some(class);
         let lines = if example.len() > 3000 { example.clone() } else { smallest(example, &holds) };
-        eprintln!("differential: the smallest script for {} of {}", number + 1, tally.classes.len());
+        eprintln!("differential: the smallest script for {} of {}", number + 1, classes().count());
         out.push_str(&row(number + 1, class, &lines));
     }
     out

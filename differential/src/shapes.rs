@@ -17,9 +17,11 @@ pub enum Preamble {
     Segments(u64),
     /// So many segments of one host address.
     Stacked(u64),
+    /// So many segments of eight host addresses in a row: a range cuts some of them in two and takes others whole.
+    Stairs(u64),
 }
 
-pub const PREAMBLES: [Preamble; 10] = [
+pub const PREAMBLES: [Preamble; 12] = [
     Preamble::Singles(1024),
     Preamble::Singles(1021),
     Preamble::Nested(512),
@@ -30,6 +32,8 @@ pub const PREAMBLES: [Preamble; 10] = [
     Preamble::Segments(62),
     Preamble::Stacked(63),
     Preamble::Stacked(64),
+    Preamble::Stairs(60),
+    Preamble::Stairs(64),
 ];
 
 impl Preamble {
@@ -48,6 +52,10 @@ impl Preamble {
             }
             Preamble::Stacked(n) => {
                 let map = |i| Call::new(Kind::Map, 0, &[100, 1000 + 20 * i, 1 + i % 15, 1]);
+                std::iter::once(add(95, 120)).chain((0..n).map(map)).collect()
+            }
+            Preamble::Stairs(n) => {
+                let map = |i| Call::new(Kind::Map, 0, &[100 + i % 8, 1000 + 20 * i, 1 + i % 5, 1]);
                 std::iter::once(add(95, 120)).chain((0..n).map(map)).collect()
             }
         }
@@ -122,8 +130,17 @@ fn spread(r: &mut Random) -> u64 {
     100 * r.between(1, 9) + r.below(3)
 }
 
+/// Starts a good way apart, and as often an address behind one: an unmap that begins there cuts a tail or a middle.
+fn apart(r: &mut Random) -> u64 {
+    32 * r.between(1, 6) + if r.once_in(2) { 0 } else { 4 + r.below(12) }
+}
+
 fn short(r: &mut Random) -> u64 {
     r.below(8)
+}
+
+fn longer(r: &mut Random) -> u64 {
+    1 + r.below(16)
 }
 
 fn any_size(r: &mut Random) -> u64 {
@@ -184,10 +201,10 @@ fn eight(r: &mut Random) -> u64 {
 
 const NO: &[Preamble] = &[Preamble::None];
 const POOL: &[Preamble] = &[PREAMBLES[0], PREAMBLES[1], PREAMBLES[2], PREAMBLES[3], PREAMBLES[4], PREAMBLES[5]];
-const SLOTS: &[Preamble] = &[PREAMBLES[6], PREAMBLES[7], PREAMBLES[8], PREAMBLES[9]];
+const SLOTS: &[Preamble] = &[PREAMBLES[6], PREAMBLES[7], PREAMBLES[8], PREAMBLES[9], PREAMBLES[10], PREAMBLES[11]];
 
 #[rustfmt::skip]
-const SHAPES: [(&str, Shape); 11] = [
+const SHAPES: [(&str, Shape); 12] = [
     ("crowded records", Shape { letters: [5, 4, 1, 0, 0, 0, 1], host: few, guest: few, size: short, repeat: once, rights: every, compartment: first, lines: (3, 24), preambles: NO }),
     ("crowded records and segments", Shape { letters: [3, 2, 1, 3, 1, 1, 1], host: few, guest: few, size: short, repeat: once, rights: plain, compartment: three, lines: (3, 24), preambles: NO }),
     ("removes over gaps", Shape { letters: [4, 7, 0, 0, 0, 0, 1], host: some, guest: few, size: short, repeat: once, rights: plain, compartment: first, lines: (4, 20), preambles: NO }),
@@ -196,6 +213,7 @@ const SHAPES: [(&str, Shape); 11] = [
     ("repeats", Shape { letters: [1, 0, 0, 5, 1, 4, 1], host: some, guest: some, size: short, repeat: often, rights: plain, compartment: first, lines: (4, 16), preambles: NO }),
     ("near 2^64", Shape { letters: [3, 2, 1, 3, 1, 1, 1], host: top, guest: top, size: short, repeat: once, rights: plain, compartment: three, lines: (3, 20), preambles: NO }),
     ("any numbers", Shape { letters: [3, 2, 1, 3, 1, 1, 1], host: ends, guest: ends, size: any_size, repeat: any_repeat, rights: every, compartment: eight, lines: (3, 20), preambles: NO }),
+    ("tails and middles", Shape { letters: [1, 0, 0, 6, 2, 2, 1], host: apart, guest: apart, size: longer, repeat: once, rights: plain, compartment: first, lines: (4, 24), preambles: NO }),
     ("long", Shape { letters: [3, 2, 1, 3, 1, 1, 1], host: some, guest: spread, size: short, repeat: once, rights: plain, compartment: three, lines: (80, 160), preambles: NO }),
     ("a nearly full pool", Shape { letters: [4, 5, 1, 0, 0, 0, 0], host: about_pool, guest: few, size: short, repeat: once, rights: plain, compartment: three, lines: (2, 8), preambles: POOL }),
     ("all segments in use", Shape { letters: [1, 1, 0, 2, 4, 3, 1], host: about_segments, guest: about_guests, size: short, repeat: once, rights: plain, compartment: first, lines: (2, 10), preambles: SLOTS }),
@@ -281,13 +299,13 @@ pub fn script(seed: u64, i: u64) -> (&'static str, Preamble, Script) {
     r.next();
     // long preambles cost as much as hundreds of other scripts
     let at = if i % 400 == 199 {
-        9
-    } else if i % 50 == 49 {
         10
+    } else if i % 50 == 49 {
+        11
     } else if i % 40 == 39 {
-        8
+        9
     } else {
-        i % 8
+        i % 9
     };
     let (name, shape) = &SHAPES[at as usize];
     let preamble = r.one_of(shape.preambles);
@@ -344,9 +362,6 @@ fn refusals() -> Script {
         call(Kind::Map, 0, &[u64::MAX, 0, 1, 1]),
         call(Kind::Map, 1, &[100, 1000, 10, 1]),
         call(Kind::Map, 1, &[200, 1005, 1, 1]),
-        call(Kind::Unmap, 1, &[95, 10]),
-        call(Kind::Map, 1, &[103, 2000, 2, 1]),
-        call(Kind::UnmapGpa, 1, &[1000, 5]),
         call(Kind::Map, 2, &[100, 1000, 10, 2]),
         call(Kind::UnmapGpa, 2, &[1000, 4]),
         call(Kind::Map, 3, &[0, 5, 1, 1]),
@@ -360,16 +375,40 @@ fn refusals() -> Script {
     script
 }
 
+/// Every reason to name an unmap. Then 64 segments, of which one is cut in two and one goes; and 63, of which two are cut in two.
+fn named_unmaps() -> Script {
+    let call = |kind, compartment, numbers: &[u64]| Call::new(kind, compartment, numbers);
+    let mut calls = vec![
+        call(Kind::Map, 0, &[100, 1000, 10, 1]),
+        call(Kind::Unmap, 0, &[95, 10]),
+        call(Kind::Unmap, 0, &[100, 5]),
+        call(Kind::Unmap, 0, &[103, 0]),
+        call(Kind::Map, 0, &[103, 2000, 2, 1]),
+        call(Kind::Unmap, 0, &[104, 2]),
+        call(Kind::Unmap, 0, &[106, 2]),
+        call(Kind::UnmapGpa, 0, &[1000, 5]),
+        call(Kind::Map, 0, &[107, 3000, 1, 1]),
+        call(Kind::UnmapGpa, 0, &[1003, 4]),
+    ];
+    for k in 1..3 {
+        calls.push(call(Kind::Map, k, &[0, 1000, 10, 1]));
+        calls.push(call(Kind::Map, k, if k == 1 { &[5, 2000, 1, 1] } else { &[1, 2000, 9, 1] }));
+        calls.extend((0..63 - k).map(|i| call(Kind::Map, k, &[50, 3000 + i, 1, 1])));
+        calls.push(call(Kind::Unmap, k, &[5, 1]));
+    }
+    script_of(&calls)
+}
+
 /// A segment, and one behind another of a higher guest address: `overlaps` is asked about both.
 fn one_and_two() -> [Script; 2] {
     let map = |numbers: &[u64]| Call::new(Kind::Map, 0, numbers);
     [script_of(&[map(&[0, 1, 1, 1])]), script_of(&[map(&[0, 2, 1, 1]), map(&[1, 0, 1, 1])])]
 }
 
-/// Scripts that reach every answer and every departure of `overlaps`, whatever the seed.
-pub fn fixed() -> [Script; 5] {
+/// Scripts that reach every answer, every reason to name an unmap and every departure of `overlaps`, whatever the seed.
+pub fn fixed() -> [Script; 6] {
     let [one, two] = one_and_two();
-    [refusals(), full_pool(), full_counts(), one, two]
+    [refusals(), full_pool(), full_counts(), named_unmaps(), one, two]
 }
 
 /// The calls of the small universe: addresses 0 to 3.
