@@ -71,6 +71,7 @@ hostParts a e s = if hostTouched a e s then cutOut (a .0 - s .hpa .0) (e .0 - s 
 unfoldable pub spanParts : GuestAddr → GuestAddr → Segment → List Segment
 spanParts a e s = if touched a e s then cutOut (a .0 - s .gpa .0) (e .0 - s .gpa .0) s else s ∷ []
 
+-- What questions 15 and 16 ask of a guest range: does it wholly cover a span, and does it lie strictly inside one?
 unfoldable pub spanWhole : GuestAddr → GuestAddr → Segment → Bool
 spanWhole a e s = (a .0 ≤? s .gpa .0) && (spanEnd s .0 ≤? e .0)
 
