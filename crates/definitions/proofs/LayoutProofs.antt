@@ -16,8 +16,8 @@ use Rattle.definitions.specs.Segments.{segment, hostEnd, spanEnd, inOrde
 use Rattle.definitions.specs.Stream.{sharedPart, segmentYields, identity, merge}
 use Rattle.definitions.specs.Reckoning.{Compartment, empty, compartmentOf, withSegments}
 use Rattle.definitions.specs.Questions.{ask, numberOf, valueOf, everyNamed, begun, lastEnd, cutsFit, canLower, ranged, onOverlaps, onMap, onUnmap, onUnmapGpa}
-use Rattle.definitions.specs.Calls.{compartment, after, afterFrom, next, start, streamOf}
-use Rattle.definitions.specs.Layouts.{Row, row, sameTable, sameList, sameStream, holds, add, singleAdds, singleRows, singleMappings, two, crowdedRow, smallRows, rows, stored as storedOne}
+use Rattle.definitions.specs.Calls.{compartment, after, afterFrom, next, start, streamOf, together, others, allowed}
+use Rattle.definitions.specs.Layouts.{Row, row, sameTable, sameList, sameStream, holds, add, singleAdds, singleRows, singleMappings, two, allPool, crowdedRow, smallRows, allowanceRows, rows, stored as storedOne}
 use Rattle.definitions.specs.declared.addr.HostAddr.{HostAddr}
 use Rattle.definitions.specs.declared.region.Values.{Values}
 use Rattle.definitions.specs.declared.region.Region.{Region}
@@ -26,7 +26,7 @@ use Rattle.definitions.specs.declared.remapper.Mapping.{Mapping}
 use Rattle.definitions.specs.declared.answer.Answer.the-variants.{Accepted, Refused}
 use Rattle.definitions.specs.declared.answer.Refusal.the-variants.{OutOfMemory}
 use Rattle.definitions.specs.declared.call.Call.{Call}
-use Rattle.definitions.specs.declared.call.Call.the-variants.{Add, Remove, Refcount, Overlaps, Map, Unmap, UnmapGpa, Permissions, Remap, Mappings}
+use Rattle.definitions.specs.declared.call.Call.the-variants.{Add, Remove, Refcount, Overlaps, Map, Unmap, UnmapGpa, Permissions, Remap, Mappings, Allow}
 use Rattle.definitions.proofs.Bools.{both, or-true}
 use Rattle.definitions.proofs.Lists.{Longest, gap, fill, change, peak, added, removed, below, above, without, leftOver}
 use Rattle.definitions.proofs.RunLaws.{regions-runs, regions-end}
@@ -35,7 +35,7 @@ use Rattle.definitions.proofs.SegmentLaws.{AllGood}
 use Rattle.definitions.proofs.Reckoned.{length-after}
 use Rattle.definitions.proofs.Stored.{Stored, stored, stored-next}
 use Rattle.definitions.proofs.PeakLaws.{hole, gaps}
-use Rattle.definitions.proofs.Tables.{Table, noTable, canRaiseOn, addChangeOn, newRecordsOn, removeChangeOn, addOn, removeOn, answerOn, leaves, startOn, usedOn, asksOn, nextOn, afterOn}
+use Rattle.definitions.proofs.Tables.{Table, noTable, canRaiseOn, addChangeOn, newRecordsOn, removeChangeOn, addOn, removeOn, allowOn, answerOn, leaves, Shelf, startOn, asksOn, nextOn, afterOn}
 use Rattle.definitions.proofs.TableLaws.{Shown, Shows, shows-start, at-is, asks-is, next-is, after-is, Fits, AllFit}
 
 -- ---- a row, computed on tables
@@ -43,9 +43,9 @@ use Rattle.definitions.proofs.TableLaws.{Shown, Shows, shows-start, at-
 streamOn : Table → List Mapping
 streamOn t = merge (t .records) (leftOver (t .segments) (t .records)) (t .segments)
 
-holdsAfter : Row → List Table → Bool
+holdsAfter : Row → Shelf → Bool
 holdsAfter w ts =
-    let t = getD (nextOn ts (w .asked)) 0 noTable in
+    let t = getD (nextOn ts (w .asked) .tables) 0 noTable in
     (numberOf (asksOn ts (w .asked)) =? w .number) && (valueOf (asksOn ts (w .asked)) =? w .value)
     && sameTable (w .table) (t .records) && sameList (w .list) (t .segments) && sameStream (w .mappings) (streamOn t)
 
@@ -67,8 +67,8 @@ holds-is w h f =
     let s = afterFrom start (w .before) in
     let ts = afterOn startOn (w .before) in
     let m : Shows s ts = after-is (w .before) start startOn h shows-start in
-    let n : Shown (compartment (next s (w .asked)) 0) (getD (nextOn ts (w .asked)) 0 noTable)
-    = at-is (next s (w .asked)) (nextOn ts (w .asked)) 0 (next-is s ts m (w .asked) f) in
+    let n : Shown (compartment (next s (w .asked)) 0) (getD (nextOn ts (w .asked) .tables) 0 noTable)
+    = at-is (next s (w .asked) .compartments) (nextOn ts (w .asked) .tables) 0 (next-is s ts m (w .asked) f .tables) in
     let k : Stored (compartment (next s (w .asked)) 0) = stored-next s (w .asked) (length-after (w .before)) (stored (w .before)) 0 in
     rw (stream-shown _ _ k n, asks-is s ts m (w .asked) f, n .records, n .segments)
 
@@ -125,10 +125,10 @@ module _ (a e : HostAddr) (l : a .0 < e .0) where
       rw (uncut a (omega arith) rs b, uncut e (omega arith) rs b, filled-last rs b, changed-last (raise k) rs b)
       (joined-last (raise k nothing) rs b h)
 
-  -- it is accepted while a record is free, and a change
-  add-last : (n : ℕ) (rs : List Region) → EndsBelow (a .0) rs → n + 1 ≤ 1024 → addOn n rs a e 1 ≡ Accepted 1
+  -- it is accepted while one more is allowed, and a change
+  add-last : (m : ℕ) (rs : List Region) → EndsBelow (a .0) rs → length rs + 1 ≤ m → addOn m rs a e 1 ≡ Accepted 1
   unfolding addOn ranged ask newRecordsOn addChangeOn
-  add-last n rs b h =
+  add-last m rs b h =
       simp (
         le-leb (a .0) (e .0) (omega arith),
         ne-eqb (a .0) (e .0) (omega arith),
@@ -136,7 +136,7 @@ module _ (a e : HostAddr) (l : a .0 < e .0) where
         none-splits a (omega arith) rs b,
         none-splits e (omega arith) rs b,
         one-gap rs b,
-        le-leb (n + 1) 1024 h,
+        le-leb (length rs + 1) m h,
       )
 
 -- ---- single addresses, grown by calls
@@ -166,25 +166,25 @@ unfolding evens
 evens-snoc x zero y e = let q : y ≡ x = omega arith in rw q
 evens-snoc x (suc n) y e = ap (λ t. region (host x) (host (x + 1)) (raise 1 nothing) ∷ t) (evens-snoc (x + 2) n y (omega arith))
 
-crowded : ℕ → List Table
-crowded n = record { records = evens 0 n; segments = [] } ∷ replicate 7 noTable
-
-crowded-used : (n : ℕ) → usedOn (crowded n) ≡ n
-unfolding crowded usedOn noTable
-crowded-used n = omega (arith, length-evens 0 n)
+-- compartment 0 has them, and the whole pool as its allowance
+crowded : ℕ → Shelf
+crowded n = record {
+  tables = record { records = evens 0 n; segments = [] } ∷ replicate 7 noTable;
+  allowances = 1024 ∷ replicate 7 0;
+}
 
 module _ (n y : ℕ) (e : y ≡ 2 * n) (l : n < 1024) where
   crowded-asks : asksOn (crowded n) (add y (y + 1) 1) ≡ Accepted 1
   unfolding asksOn answerOn compartmentOf crowded ask host
-  crowded-asks = add-last (host y) (host (y + 1)) (omega arith) (usedOn (crowded n)) (evens 0 n) (evens-below y 0 n (omega arith)) (omega (arith, crowded-used n))
+  crowded-asks = add-last (host y) (host (y + 1)) (omega arith) 1024 (evens 0 n) (evens-below y 0 n (omega arith)) (omega (arith, length-evens 0 n))
 
   crowded-next : nextOn (crowded n) (add y (y + 1) 1) ≡ crowded (suc n)
-  unfolding nextOn compartmentOf leaves host crowded
+  unfolding nextOn compartmentOf leaves allowed host crowded
   crowded-next = rw crowded-asks (more (added-last (host y) (host (y + 1)) (omega arith) 1 (evens 0 n) (evens-below y 0 n (omega arith)) (evens-longest 0 n) ∙ evens-snoc 0 n y (omega arith)))
     where
       more : added (host y) (host (y + 1)) 1 (evens 0 n) ≡ evens 0 (suc n)
-          → _≡_ {A = List Table} (record { records = added (host y) (host (y + 1)) 1 (evens 0 n); segments = [] } ∷ replicate 7 noTable) (record { records = evens 0 (suc n); segments = [] } ∷ replicate 7 noTable)
-      more q = λ i. record { records = q i; segments = [] } ∷ replicate 7 noTable
+          → _≡_ {A = Shelf} (record { tables = record { records = added (host y) (host (y + 1)) 1 (evens 0 n); segments = [] } ∷ replicate 7 noTable; allowances = 1024 ∷ replicate 7 0 }) (crowded (suc n))
+      more q = λ i. record { tables = record { records = q i; segments = [] } ∷ replicate 7 noTable; allowances = 1024 ∷ replicate 7 0 }
 
 grows : (m n y : ℕ) → y ≡ 2 * n → n + m ≤ 1024 → afterOn (crowded n) (singleAdds y m) ≡ crowded (n + m)
 unfolding afterOn singleAdds
@@ -228,7 +228,7 @@ evens-shown x (suc n) = simp (eq-eqb x x refl, eq-eqb (x + 1) (x + 1) refl) (eve
 module _ (k : ℕ) (e : suc (suc k) ≡ 1024) where
   refused : asksOn (crowded (suc (suc k))) (add 0 2 1) ≡ Refused OutOfMemory
   unfolding asksOn answerOn compartmentOf crowded ask addOn ranged newRecordsOn gaps hole host region evens
-  refused = simp (evens-raise, evens-unsplit, lt-leb (usedOn (crowded (suc (suc k))) + 1) 1024 (omega (arith, crowded-used (suc (suc k)))))
+  refused = simp (evens-raise, evens-unsplit, lt-leb (length (evens 0 (suc (suc k))) + 1) 1024 (omega (arith, length-evens 0 (suc (suc k)))))
 
   crowded-holds : (b : List Call)
       → holdsAfter (row b (add 0 2 1) 5 0 (singleRows 0 (suc (suc k))) [] (singleMappings 0 (suc (suc k)))) (crowded (suc (suc k))) ≡ true
@@ -249,6 +249,7 @@ fitsCall (UnmapGpa k g n) = true
 fitsCall (Permissions k i n) = true
 fitsCall (Remap k i n) = true
 fitsCall (Mappings k) = true
+fitsCall (Allow k n) = true
 
 fits-call : (c : Call) → fitsCall c ≡ true → Fits c
 unfolding fitsCall
@@ -262,6 +263,7 @@ fits-call (UnmapGpa k g n) h = tt
 fits-call (Permissions k i n) h = tt
 fits-call (Remap k i n) h = tt
 fits-call (Mappings k) h = tt
+fits-call (Allow k n) h = tt
 
 fit-all : (cs : List Call) → all fitsCall cs ≡ true → AllFit cs
 fit-all [] h = tt
@@ -269,7 +271,7 @@ fit-all (c ∷ cs) h = let p = both (fitsCall c) (all fitsCall cs) h in (fits-ca
 
 -- all that the rows compute with, named once
 opened : Unit {0}
-unfolding inside host guest hostUp guestUp fits named nothing held raise lower rightsOf region within meets same joins join joined splits cut freed segment hostEnd spanEnd inOrder place overlaps isIdentity mapped front rest cutOut hostTouched hostParts unmapped touched spanWhole spanInside spanParts placeAll unmappedGpa empty compartmentOf withSegments ask everyNamed begun lastEnd cutsFit canLower ranged onOverlaps onMap onUnmap onUnmapGpa row sameTable sameList sameStream two storedOne smallRows sharedPart segmentYields identity merge below above without leftOver streamOn gap fill change peak added removed hole gaps noTable canRaiseOn addChangeOn newRecordsOn removeChangeOn addOn removeOn answerOn leaves startOn usedOn asksOn nextOn afterOn holdsAfter fitsCall
+unfolding inside host guest hostUp guestUp fits named nothing held raise lower rightsOf region within meets same joins join joined splits cut freed segment hostEnd spanEnd inOrder place overlaps isIdentity mapped front rest cutOut hostTouched hostParts unmapped touched spanWhole spanInside spanParts placeAll unmappedGpa empty compartmentOf withSegments ask everyNamed begun lastEnd cutsFit canLower ranged onOverlaps onMap onUnmap onUnmapGpa row sameTable sameList sameStream two storedOne smallRows allowanceRows sharedPart segmentYields identity merge below above without leftOver streamOn gap fill change peak added removed hole gaps noTable canRaiseOn addChangeOn newRecordsOn removeChangeOn addOn removeOn allowOn answerOn leaves together others allowed startOn asksOn nextOn afterOn holdsAfter fitsCall
 opened = tt
 
 -- a row that fits, and holds as computed on tables
@@ -287,22 +289,37 @@ computed-all : (ws : List Row) → all computes ws ≡ true → all holds ws ≡
 computed-all [] h = refl
 computed-all (w ∷ ws) h = let p = both (computes w) (all computes ws) h in rw (computed w (p .0), computed-all ws (p .1))
 
-small-compute : all computes smallRows ≡ true
+small-compute : all computes (smallRows ++ allowanceRows) ≡ true
 unfolding opened computes
 small-compute = refl
 
-crowded-start : startOn ≡ crowded 0
-unfolding startOn crowded noTable evens
+-- the whole pool is set aside for compartment 0
+crowded-start : afterOn startOn allPool ≡ crowded 0
+unfolding opened allPool crowded evens
 crowded-start = refl
+
+afterOn-append : (cs ds : List Call) (ts : Shelf) → afterOn ts (cs ++ ds) ≡ afterOn (afterOn ts cs) ds
+unfolding afterOn
+afterOn-append [] ds ts = refl
+afterOn-append (c ∷ cs) ds ts = afterOn-append cs ds (nextOn ts c)
+
+fit-append : (cs ds : List Call) → AllFit cs → AllFit ds → AllFit (cs ++ ds)
+fit-append [] ds h g = g
+fit-append (c ∷ cs) ds h g = (h .0, fit-append cs ds (h .1) g)
+
+pool-fits : AllFit allPool
+unfolding allPool fitsCall
+pool-fits = fit-all allPool refl
 
 crowded-row : holds crowdedRow ≡ true
 unfolding crowdedRow row host
 crowded-row =
-    holds-is crowdedRow (singles-fit 0 1024 (omega arith)) (omega arith)
+    holds-is crowdedRow (fit-append allPool (singleAdds 0 1024) pool-fits (singles-fit 0 1024 (omega arith))) (omega arith)
+    ∙ ap (holdsAfter crowdedRow) (afterOn-append allPool (singleAdds 0 1024) startOn)
     ∙ ap (λ ts. holdsAfter crowdedRow (afterOn ts (singleAdds 0 1024))) crowded-start
-    ∙ ap (holdsAfter crowdedRow) (grows 1024 0 0 refl (omega arith)) ∙ crowded-holds 1022 refl (singleAdds 0 1024)
+    ∙ ap (holdsAfter crowdedRow) (grows 1024 0 0 refl (omega arith)) ∙ crowded-holds 1022 refl (allPool ++ singleAdds 0 1024)
 
 -- every starred layout holds
 pub layouts : all holds rows ≡ true
 unfolding rows
-layouts = rw (crowded-row, computed-all smallRows small-compute)
+layouts = rw (crowded-row, computed-all (smallRows ++ allowanceRows) small-compute)

@@ -24,5 +24,6 @@ pub mod Pool
 pub mod Demand
 pub mod Tables
 pub mod TableLaws
+pub mod Independence
 pub mod LayoutProofs
 pub mod ScriptExamples

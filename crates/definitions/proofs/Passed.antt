@@ -9,7 +9,7 @@ use Rattle.definitions.specs.Tests.{_<?_, _≤?_, _=?_, if_then_else_, f
 use Rattle.definitions.specs.Regions.{regions, newRecords}
 use Rattle.definitions.specs.Segments.{segment, overlaps, isIdentity, unmapped, touched, spanInside, unmappedGpa}
 use Rattle.definitions.specs.Reckoning.{Compartment}
-use Rattle.definitions.specs.Questions.{ask, accepted, canRaise, cutsFit, begun, lastEnd, canLower, ranged, onAdd, onRemove, onMap, onUnmap, onUnmapGpa}
+use Rattle.definitions.specs.Questions.{ask, accepted, inUse, canRaise, cutsFit, begun, lastEnd, canLower, ranged, onAdd, onRemove, onMap, onUnmap, onUnmapGpa, onAllow}
 use Rattle.definitions.specs.declared.addr.HostAddr.{HostAddr}
 use Rattle.definitions.specs.declared.addr.GuestAddr.{GuestAddr}
 use Rattle.definitions.specs.declared.answer.Refusal.{Refusal}
@@ -36,20 +36,20 @@ passed (q ∷ qs) x h = go (q .0) refl h (λ k. passed qs x k)
 
 -- What each accepted call that changes something passed, as facts of numbers
 
-module _ (used : ℕ) (c : Compartment) (a e : HostAddr) (r : ℕ) where
+module _ (m : ℕ) (c : Compartment) (a e : HostAddr) (r : ℕ) where
   pub record AddPassed : Type 0 where
     pub rights : r < 32
     pub range : a .0 ≤ e .0
     -- not asked of an empty range
     pub counts : (a .0 =? e .0) ≡ false → canRaise a e r (c .values) ≡ true
-    pub records : (a .0 =? e .0) ≡ false → used + newRecords a e (c .values) ≤ 1024
+    pub records : (a .0 =? e .0) ≡ false → inUse c + newRecords a e (c .values) ≤ m
 
   pub record RemovePassed : Type 0 where
     pub rights : r < 32
     pub range : a .0 ≤ e .0
     pub begins : (a .0 =? e .0) ≡ false → 1 ≤ length (begun a (regions (c .values)))
     pub reaches : (a .0 =? e .0) ≡ false → a .0 < lastEnd 0 (begun a (regions (c .values)))
-    pub records : (a .0 =? e .0) ≡ false → cutsFit used a e (regions (c .values)) ≡ true
+    pub records : (a .0 =? e .0) ≡ false → cutsFit (inUse c) m a e (regions (c .values)) ≡ true
     pub counts : (a .0 =? e .0) ≡ false → canLower a e r (regions (c .values)) ≡ true
 
   -- the two questions before, and the others unless the range is empty
@@ -60,7 +60,7 @@ module _ (used : ℕ) (c : Compartment) (a e : HostAddr) (r : ℕ) where
       let p = passed ((r <? 32, InvalidMemOps) ∷ (a .0 ≤? e .0, InvalidRange) ∷ []) (if a .0 =? e .0 then Accepted 0 else x) h in
       (ltb-true r 32 (p .0 .0), leb-true (a .0) (e .0) (p .0 .1 .0), λ d. simp d at (p .1))
 
-  pub add-passed : accepted (onAdd used c a e r) ≡ true → AddPassed
+  pub add-passed : accepted (onAdd m c a e r) ≡ true → AddPassed
   unfolding onAdd
   add-passed h =
       let p = ranged-passed _ h in
@@ -68,10 +68,10 @@ module _ (used : ℕ) (c : Compartment) (a e : HostAddr) (r : ℕ) where
         rights = p .0;
         range = p .1;
         counts = λ d. passed _ _ (p .2 d) .0 .0;
-        records = λ d. leb-true (used + newRecords a e (c .values)) 1024 (passed _ _ (p .2 d) .0 .1 .0);
+        records = λ d. leb-true (inUse c + newRecords a e (c .values)) m (passed _ _ (p .2 d) .0 .1 .0);
       }
 
-  pub remove-passed : accepted (onRemove used c a e r) ≡ true → RemovePassed
+  pub remove-passed : accepted (onRemove m c a e r) ≡ true → RemovePassed
   unfolding onRemove
   remove-passed h =
       let p = ranged-passed _ h in
@@ -147,3 +147,13 @@ unmapGpa-passed c g n k d =
       alone = p .1 .1 .0;
       slot = leb-true (length (unmappedGpa g n (c .segments))) 64 (p .1 .1 .1 .0);
     }
+
+pub record AllowPassed (others : ℕ) (c : Compartment) (n : ℕ) : Type 0 where
+  pub fit : others + n ≤ 1024
+  pub enough : inUse c ≤ n
+
+pub allow-passed : (others : ℕ) (c : Compartment) (n : ℕ) → accepted (onAllow others c n) ≡ true → AllowPassed others c n
+unfolding onAllow
+allow-passed others c n k =
+    let p = passed _ _ k .0 in
+    record { fit = leb-true (others + n) 1024 (p .0); enough = leb-true (inUse c) n (p .1 .0) }

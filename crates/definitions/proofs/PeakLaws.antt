@@ -209,7 +209,7 @@ peak-grows a e f l h b =
       ap bit (splits-cut a e (regions f) l),
     )
 
--- ---- the records in use stay within 1,024
+-- ---- the records in use stay within what is allowed
 
 length-change : (f : Values → Values) (a e : HostAddr) (rs : List Region) → length (change f a e rs) ≡ length rs
 unfolding change
@@ -286,12 +286,12 @@ length-removed a e k rs l =
       ap bit (splits-cut a e rs l),
     )
 
--- in use: the regions of this compartment and those of the others
-module _ (used others : ℕ) (a e : HostAddr) (k : ℕ) (f : HostAddr → Values) (u : used ≡ others + length (regions f)) (l : a .0 < e .0) (h : e .0 ≤ 2 ^ 64) (b : Blank f) where
-  pub add-fits : used + newRecords a e f ≤ 1024 → others + length (regions (changedIn (raise k) a e f)) ≤ 1024
+-- so many records are allowed
+module _ (allowed : ℕ) (a e : HostAddr) (k : ℕ) (f : HostAddr → Values) (l : a .0 < e .0) (h : e .0 ≤ 2 ^ 64) (b : Blank f) where
+  pub add-fits : length (regions f) + newRecords a e f ≤ allowed → length (regions (changedIn (raise k) a e f)) ≤ allowed
   add-fits m = omega (arith, ap length (added-is a e k f b h), length-added a e k (regions f), peak-grows a e f l h b)
 
-  pub remove-fits : cutsFit used a e (regions f) ≡ true → others + length (regions (changedIn (lower k) a e f)) ≤ 1024
+  pub remove-fits : cutsFit (length (regions f)) allowed a e (regions f) ≡ true → length (regions (changedIn (lower k) a e f)) ≤ allowed
   unfolding cutsFit
   remove-fits m = go (any (splits e) (regions f)) refl (both _ _ m)
     where
@@ -299,7 +299,7 @@ module _ (used others : ℕ) (a e : HostAddr) (k : ℕ) (f : HostAddr → Values
       made = rw (removed-is a e k f b h) at (length-removed a e k (regions f) l)
 
       go : (t : Bool) → any (splits e) (regions f) ≡ t
-          → ((used + bit (any (splits a) (regions f)) ≤? 1024) ≡ true) × ((not (any (splits e) (regions f)) || (used + bit (any (splits a) (regions f)) - freed a e (regions f) + 1 ≤? 1024)) ≡ true)
-          → others + length (regions (changedIn (lower k) a e f)) ≤ 1024
-      go true d m = omega (arith, simp d at made, leb-true (used + bit (any (splits a) (regions f)) - freed a e (regions f) + 1) 1024 (simp d at (m .1)))
-      go false d m = omega (arith, simp d at made, leb-true (used + bit (any (splits a) (regions f))) 1024 (m .0))
+          → ((length (regions f) + bit (any (splits a) (regions f)) ≤? allowed) ≡ true) × ((not (any (splits e) (regions f)) || (length (regions f) + bit (any (splits a) (regions f)) - freed a e (regions f) + 1 ≤? allowed)) ≡ true)
+          → length (regions (changedIn (lower k) a e f)) ≤ allowed
+      go true d m = omega (arith, simp d at made, leb-true (length (regions f) + bit (any (splits a) (regions f)) - freed a e (regions f) + 1) allowed (simp d at (m .1)))
+      go false d m = omega (arith, simp d at made, leb-true (length (regions f) + bit (any (splits a) (regions f))) allowed (m .0))

@@ -8,7 +8,7 @@ use Rattle.definitions.specs.Script
 use Rattle.definitions.specs.Script.{linesOf, consByte, isDigit, digitsOf, columnOf, columnsOf, arity, call, malformed, lineOf, spaced, numberIn, answerLine}
 use Rattle.definitions.specs.declared.answer.Refusal.the-variants.{Malformed}
 use Rattle.definitions.specs.declared.answer.Answer.the-variants.{Accepted, Refused}
-use Rattle.definitions.specs.declared.call.Call.the-variants.{Add, UnmapGpa, Mappings}
+use Rattle.definitions.specs.declared.call.Call.the-variants.{Add, UnmapGpa, Mappings, Allow}
 
 -- a number of one or two digits at the right of 21 columns
 one : ℕ → List ℕ
@@ -34,6 +34,19 @@ unmapping = refl
 printing : lineOf (80 ∷ 32 ∷ 55 ∷ []) ≡ call (Mappings 7)
 unfolding opened
 printing = refl
+
+-- "S 3" and 40; a number too few, a number too many
+allowing : lineOf (83 ∷ 32 ∷ 51 ∷ pair 52 48) ≡ call (Allow 3 40)
+unfolding opened
+allowing = refl
+
+allowing-nothing : lineOf (83 ∷ 32 ∷ 51 ∷ []) ≡ malformed
+unfolding opened
+allowing-nothing = refl
+
+allowing-twice : lineOf (83 ∷ 32 ∷ 51 ∷ one 52 ++ one 52) ≡ malformed
+unfolding opened
+allowing-twice = refl
 
 -- a leading zero, a column too many, a column too few, another letter, a left-justified number, nothing
 leading-zero : lineOf (80 ∷ 48 ∷ 55 ∷ []) ≡ malformed

@@ -9,8 +9,8 @@ use borrow.Author.Tests.{eqb-false}
 use Rattle.definitions.specs.Tests.{_<?_, _=?_, if_then_else_, guestUp, all, any, keep}
 use Rattle.definitions.specs.Segments.{isIdentity, touched, spanWhole, spanInside}
 use Rattle.definitions.specs.Reckoning.{Compartment, compartmentOf}
-use Rattle.definitions.specs.Questions.{ask, numberOf, refusalNumber, ranged, onAdd, onRemove, onRefcount, onOverlaps, onMap, onUnmap, onUnmapGpa}
-use Rattle.definitions.specs.Calls.{compartment, used, answerIn, answer, after}
+use Rattle.definitions.specs.Questions.{ask, numberOf, refusalNumber, ranged, onAdd, onRemove, onRefcount, onOverlaps, onMap, onUnmap, onUnmapGpa, onAllow}
+use Rattle.definitions.specs.Calls.{compartment, answerIn, answer, after}
 use Rattle.definitions.specs.declared.addr.GuestAddr.{GuestAddr}
 use Rattle.definitions.specs.declared.remapper.Segment.{Segment}
 use Rattle.definitions.specs.declared.answer.Refusal.{Refusal}
@@ -18,7 +18,7 @@ use Rattle.definitions.specs.declared.answer.Refusal.the-variants.{NoCom
 use Rattle.definitions.specs.declared.answer.Answer.{Answer}
 use Rattle.definitions.specs.declared.answer.Answer.the-variants.{Accepted, Refused}
 use Rattle.definitions.specs.declared.call.Call.{Call}
-use Rattle.definitions.specs.declared.call.Call.the-variants.{Add, Remove, Refcount, Overlaps, Map, Unmap, UnmapGpa, Permissions, Remap, Mappings}
+use Rattle.definitions.specs.declared.call.Call.the-variants.{Add, Remove, Refcount, Overlaps, Map, Unmap, UnmapGpa, Permissions, Remap, Mappings, Allow}
 use Rattle.definitions.proofs.SegmentLaws.{AllGood, Singles}
 use Rattle.definitions.proofs.GuestLaws.{Unshared, others-untouched}
 use Rattle.definitions.proofs.Stored.{stored}
@@ -79,21 +79,22 @@ module _ (c : Compartment) (good : AllGood (c .segments)) (u : Unshared (c .segm
       asked _ _ _ _ (then-16 (c .segments) good u g n (neither (length (c .segments) =? 0) (n =? 0) d)) refl k) h
 
   -- of no call is the answer 16
-  pub in-never : (n : ℕ) (call : Call) → numberOf (answerIn n c call) ≡ 16 → ⊥
-  unfolding answerIn ranged onAdd onRemove onRefcount onOverlaps onMap onUnmap
-  in-never n (Add k a e r) h =
+  pub in-never : (n m : ℕ) (call : Call) → numberOf (answerIn n m c call) ≡ 16 → ⊥
+  unfolding answerIn ranged onAdd onRemove onRefcount onOverlaps onMap onUnmap onAllow
+  in-never n m (Add k a e r) h =
       not-asked 16 _ _ refl (unless (a .0 =? e .0) _ (λ d. not-asked 16 _ _ refl (λ z. omega arith))) h
-  in-never n (Remove k a e r) h =
+  in-never n m (Remove k a e r) h =
       not-asked 16 _ _ refl (unless (a .0 =? e .0) _ (λ d. not-asked 16 _ _ refl (λ z. omega arith))) h
-  in-never n (Map k p g m t) h =
+  in-never n m (Map k p g i t) h =
       not-asked 16 _ _ refl (unless (isIdentity p g t) _ (λ d. not-asked 16 _ _ refl (λ z. omega arith))) h
-  in-never n (Overlaps k g m) h = not-asked 16 _ _ refl (λ z. omega arith) h
-  in-never n (Unmap k p m) h = not-asked 16 _ _ refl (λ z. omega arith) h
-  in-never n (UnmapGpa k g m) h = guest-never g m h
-  in-never n (Refcount k a e) h = omega arith
-  in-never n (Permissions k i m) h = omega arith
-  in-never n (Remap k i m) h = omega arith
-  in-never n (Mappings k) h = omega arith
+  in-never n m (Overlaps k g i) h = not-asked 16 _ _ refl (λ z. omega arith) h
+  in-never n m (Unmap k p i) h = not-asked 16 _ _ refl (λ z. omega arith) h
+  in-never n m (UnmapGpa k g i) h = guest-never g i h
+  in-never n m (Refcount k a e) h = omega arith
+  in-never n m (Permissions k i j) h = omega arith
+  in-never n m (Remap k i j) h = omega arith
+  in-never n m (Mappings k) h = omega arith
+  in-never n m (Allow k new) h = not-asked 16 _ _ refl (λ z. omega arith) h
 
 -- after every list of calls no call is refused with 16
 pub never-16 : (calls : List Call) (call : Call) → numberOf (answer (after calls) call) ≡ 16 → ⊥
@@ -101,7 +102,7 @@ unfolding answer
 never-16 calls call h =
     not-asked 16 ((compartmentOf call <? 8, NoCompartment) ∷ []) _ refl
     (in-never (compartment (after calls) (compartmentOf call)) (stored calls (compartmentOf call) .good)
-    (stored calls (compartmentOf call) .unshared) (used (after calls)) call) h
+    (stored calls (compartmentOf call) .unshared) _ _ call) h
 
 pub never-others-touched : (calls : List Call) (call : Call) → answer (after calls) call ≡ Refused OthersTouched → ⊥
 never-others-touched calls call h = never-16 calls call (ap numberOf h)

@@ -21,7 +21,7 @@ use Rattle.definitions.specs.declared.addr.GuestAddr.{GuestAddr}
 use Rattle.definitions.specs.declared.region.Values.{Values}
 use Rattle.definitions.specs.declared.remapper.Segment.{Segment}
 use Rattle.definitions.specs.declared.call.Call.{Call}
-use Rattle.definitions.specs.declared.call.Call.the-variants.{Add, Remove, Refcount, Overlaps, Map, Unmap, UnmapGpa, Permissions, Remap, Mappings}
+use Rattle.definitions.specs.declared.call.Call.the-variants.{Add, Remove, Refcount, Overlaps, Map, Unmap, UnmapGpa, Permissions, Remap, Mappings, Allow}
 use Rattle.definitions.proofs.Bools.{Where, inn, low, high, where?, both}
 use Rattle.definitions.proofs.Lists.{Blank}
 use Rattle.definitions.proofs.RegionsAre.{raised-blank, lowered-blank}
@@ -235,18 +235,19 @@ module _ (n : ℕ) (c : Compartment) (s : Stored c) where
           let p = unmapGpa-passed c g m h (simp (d, f)) in
           simp d (cut-stored (spanParts g (guestUp g m)) (span-each g (guestUp g m) (c .segments) (omega arith) (s .good) (p .single)) (simp d at (p .slot)))
 
-call-stored : (n : ℕ) (c : Compartment) (call : Call) → Stored c → accepted (answerIn n c call) ≡ true → Stored (reckon call c)
+call-stored : (n m : ℕ) (c : Compartment) (call : Call) → Stored c → accepted (answerIn n m c call) ≡ true → Stored (reckon call c)
 unfolding answerIn reckon
-call-stored n c (Add k a e r) s h = add-stored n c s k a e r (add-passed n c a e r h)
-call-stored n c (Remove k a e r) s h = remove-stored n c s k a e r
-call-stored n c (Map k h g m t) s p = map-stored n c s k h g m t (map-passed c h g m t p)
-call-stored n c (Unmap k h m) s p = unmap-stored n c s k h m (unmap-passed c h m p)
-call-stored n c (UnmapGpa k g m) s p = unmapGpa-stored n c s k g m p
-call-stored n c (Refcount k a e) s h = s
-call-stored n c (Overlaps k g m) s h = s
-call-stored n c (Permissions k i m) s h = s
-call-stored n c (Remap k i m) s h = s
-call-stored n c (Mappings k) s h = s
+call-stored n m c (Add k a e r) s h = add-stored m c s k a e r (add-passed m c a e r h)
+call-stored n m c (Remove k a e r) s h = remove-stored m c s k a e r
+call-stored n m c (Map k h g size t) s p = map-stored m c s k h g size t (map-passed c h g size t p)
+call-stored n m c (Unmap k h size) s p = unmap-stored m c s k h size (unmap-passed c h size p)
+call-stored n m c (UnmapGpa k g size) s p = unmapGpa-stored m c s k g size p
+call-stored n m c (Refcount k a e) s h = s
+call-stored n m c (Overlaps k g size) s h = s
+call-stored n m c (Permissions k i room) s h = s
+call-stored n m c (Remap k i room) s h = s
+call-stored n m c (Mappings k) s h = s
+call-stored n m c (Allow k new) s h = s
 
 empty-stored : Stored empty
 unfolding empty inOrder
@@ -254,7 +255,7 @@ empty-stored = record { good = tt; order = refl; few = omega arith; unshared = �
 
 -- Every list of calls
 
-pub stored-next : (s : State) (c : Call) → length s ≡ 8 → ((k : ℕ) → Stored (compartment s k)) → (k : ℕ)
+pub stored-next : (s : State) (c : Call) → length (s .compartments) ≡ 8 → ((k : ℕ) → Stored (compartment s k)) → (k : ℕ)
     → Stored (compartment (next s c) k)
 stored-next = always-next Stored call-stored
 

@@ -1,5 +1,5 @@
 -- Tables of lists show a state: what the calls answer and leave of the lists is what they answer and leave of the state.
-use Prim.Native.Nat.{ℕ, zero, suc, _+_, _^_, _<_, _≤_}
+use Prim.Native.Nat.{ℕ, zero, suc, _^_, _<_, _≤_}
 use mathlib.Core.Path.{_≡_, refl, sym, ap, ap₂, _∙_}
 use mathlib.Core.Bool.{Bool, true, false}
 use mathlib.Core.List.{List, [], _∷_, map}
@@ -13,32 +13,36 @@ use Rattle.definitions.specs.Stream.{stream}
 use Rattle.definitions.specs.Pages.{page, mappingGroup, permissionGroup}
 use Rattle.definitions.specs.Segments.{mapped, unmapped, unmappedGpa}
 use Rattle.definitions.specs.Reckoning.{Compartment, empty, reckon, compartmentOf, withValues, withSegments}
-use Rattle.definitions.specs.Questions.{ask, accepted, ranged, onAdd, onRemove, onRefcount, onOverlaps, onMap, onUnmap, onUnmapGpa}
-use Rattle.definitions.specs.Calls.{State, start, compartment, used, streamOf, streamGroups, permissionGroups, answerIn, answer, next, afterFrom}
+use Rattle.definitions.specs.Questions.{ask, accepted, ranged, onAdd, onRemove, onRefcount, onOverlaps, onMap, onUnmap, onUnmapGpa, onAllow}
+use Rattle.definitions.specs.Calls.{State, start, compartment, allowance, others, streamOf, streamGroups, permissionGroups, answerIn, answer, allowed, next, afterFrom}
 use Rattle.definitions.specs.declared.addr.HostAddr.{HostAddr}
 use Rattle.definitions.specs.declared.region.Values.{Values}
 use Rattle.definitions.specs.declared.answer.Refusal.the-variants.{InvalidRange, InvalidMemOps}
 use Rattle.definitions.specs.declared.answer.Answer.{Answer}
 use Rattle.definitions.specs.declared.answer.Answer.the-variants.{Accepted, Refused}
 use Rattle.definitions.specs.declared.call.Call.{Call}
-use Rattle.definitions.specs.declared.call.Call.the-variants.{Add, Remove, Refcount, Overlaps, Map, Unmap, UnmapGpa, Permissions, Remap, Mappings}
+use Rattle.definitions.specs.declared.call.Call.the-variants.{Add, Remove, Refcount, Overlaps, Map, Unmap, UnmapGpa, Permissions, Remap, Mappings, Allow}
 use Rattle.definitions.proofs.Lists.{Blank, added, removed}
 use Rattle.definitions.proofs.RunLaws.{regions-below}
 use Rattle.definitions.proofs.RegionsAre.{raised-blank, lowered-blank, added-is, removed-is}
 use Rattle.definitions.proofs.PeakLaws.{unheld-gaps}
 use Rattle.definitions.proofs.AddressLaws.{can-raise-is, add-change-is, remove-change-is}
-use Rattle.definitions.proofs.Tables.{Table, noTable, canRaiseOn, addChangeOn, newRecordsOn, removeChangeOn, addOn, removeOn, answerOn, leaves, startOn, usedOn, asksOn, nextOn, afterOn}
+use Rattle.definitions.proofs.Tables.{Table, noTable, canRaiseOn, addChangeOn, newRecordsOn, removeChangeOn, addOn, removeOn, allowOn, answerOn, leaves, Shelf, startOn, asksOn, nextOn, afterOn}
 
 pub record Shown (c : Compartment) (t : Table) : Type 0 where
   pub blank : Blank (c .values)
   pub records : regions (c .values) ≡ t .records
   pub segments : c .segments ≡ t .segments
 
-abbrev pub Shows : State → List Table → Type 0
-Shows [] [] = Unit {0}
-Shows [] (t ∷ ts) = ⊥
-Shows (c ∷ cs) [] = ⊥
-Shows (c ∷ cs) (t ∷ ts) = Shown c t × Shows cs ts
+abbrev pub AllShown : List Compartment → List Table → Type 0
+AllShown [] [] = Unit {0}
+AllShown [] (t ∷ ts) = ⊥
+AllShown (c ∷ cs) [] = ⊥
+AllShown (c ∷ cs) (t ∷ ts) = Shown c t × AllShown cs ts
+
+pub record Shows (s : State) (ts : Shelf) : Type 0 where
+  pub tables : AllShown (s .compartments) (ts .tables)
+  pub allowances : s .allowances ≡ ts .allowances
 
 -- nothing held: no region
 regions-nothing : regions (λ x. nothing) ≡ []
@@ -49,29 +53,22 @@ pub shown-empty : Shown empty noTable
 unfolding empty noTable
 shown-empty = record { blank = λ x e. refl; records = regions-nothing; segments = refl }
 
-shows-empty : (n : ℕ) → Shows (replicate n empty) (replicate n noTable)
+shows-empty : (n : ℕ) → AllShown (replicate n empty) (replicate n noTable)
 shows-empty zero = tt
 shows-empty (suc n) = (shown-empty, shows-empty n)
 
 pub shows-start : Shows start startOn
 unfolding start startOn
-shows-start = shows-empty 8
+shows-start = record { tables = shows-empty 8; allowances = refl }
 
-pub used-is : (s : State) (ts : List Table) → Shows s ts → used s ≡ usedOn ts
-unfolding used usedOn
-used-is [] [] h = refl
-used-is [] (t ∷ ts) h = absurd h
-used-is (c ∷ cs) [] h = absurd h
-used-is (c ∷ cs) (t ∷ ts) h = ap₂ _+_ (ap length (h .0 .records)) (used-is cs ts (h .1))
-
-pub at-is : (s : State) (ts : List Table) (k : ℕ) → Shows s ts → Shown (getD s k empty) (getD ts k noTable)
+pub at-is : (s : List Compartment) (ts : List Table) (k : ℕ) → AllShown s ts → Shown (getD s k empty) (getD ts k noTable)
 at-is [] [] k h = shown-empty
 at-is [] (t ∷ ts) k h = absurd h
 at-is (c ∷ cs) [] k h = absurd h
 at-is (c ∷ cs) (t ∷ ts) zero h = h .0
 at-is (c ∷ cs) (t ∷ ts) (suc k) h = at-is cs ts k (h .1)
 
-set-is : (s : State) (ts : List Table) (k : ℕ) (c : Compartment) (t : Table) → Shown c t → Shows s ts → Shows (set s k c) (set ts k t)
+set-is : (s : List Compartment) (ts : List Table) (k : ℕ) (c : Compartment) (t : Table) → Shown c t → AllShown s ts → AllShown (set s k c) (set ts k t)
 set-is [] [] k c t p h = tt
 set-is [] (u ∷ ts) k c t p h = absurd h
 set-is (d ∷ cs) [] k c t p h = absurd h
@@ -90,6 +87,7 @@ Fits (UnmapGpa k g n) = Unit {0}
 Fits (Permissions k i n) = Unit {0}
 Fits (Remap k i n) = Unit {0}
 Fits (Mappings k) = Unit {0}
+Fits (Allow k n) = Unit {0}
 
 abbrev pub AllFit : List Call → Type 0
 AllFit [] = Unit {0}
@@ -135,19 +133,24 @@ module _ (c : Compartment) (t : Table) (m : Shown c t) where
   unfolding streamOf
   stream-is = ap₂ stream (m .records) (m .segments)
 
-  pub answer-is : (n : ℕ) (call : Call) → Fits call → answerIn n c call ≡ answerOn n t call
+  pub allow-is : (others n : ℕ) → onAllow others c n ≡ allowOn others (t .records) n
+  unfolding onAllow allowOn
+  allow-is others n = rw (m .records)
+
+  pub answer-is : (n own : ℕ) (call : Call) → Fits call → answerIn n own c call ≡ answerOn n own t call
   unfolding answerIn answerOn onRefcount onOverlaps onMap onUnmap onUnmapGpa withSegments permissionGroups streamGroups
-  answer-is n (Add k a e r) h = add-is n a e r h
-  answer-is n (Remove k a e r) h = remove-is n a e r h
-  answer-is n (Refcount k a e) h = ap (λ rs. Accepted (refcountOf a e rs)) (m .records)
-  answer-is n (Overlaps k g size) h = by-segments (λ d. onOverlaps d g size) (λ d. refl)
-  answer-is n (Map k p g size r) h = by-segments (λ d. onMap d p g size r) (λ d. refl)
-  answer-is n (Unmap k p size) h = by-segments (λ d. onUnmap d p size) (λ d. refl)
-  answer-is n (UnmapGpa k g size) h = by-segments (λ d. onUnmapGpa d g size) (λ d. refl)
-  answer-is n (Permissions k i room) h =
+  answer-is n own (Add k a e r) h = add-is own a e r h
+  answer-is n own (Remove k a e r) h = remove-is own a e r h
+  answer-is n own (Refcount k a e) h = ap (λ rs. Accepted (refcountOf a e rs)) (m .records)
+  answer-is n own (Overlaps k g size) h = by-segments (λ d. onOverlaps d g size) (λ d. refl)
+  answer-is n own (Map k p g size r) h = by-segments (λ d. onMap d p g size r) (λ d. refl)
+  answer-is n own (Unmap k p size) h = by-segments (λ d. onUnmap d p size) (λ d. refl)
+  answer-is n own (UnmapGpa k g size) h = by-segments (λ d. onUnmapGpa d g size) (λ d. refl)
+  answer-is n own (Permissions k i room) h =
       ap (λ rs. Accepted (length (page 3 (map (λ r. permissionGroup (permissionOf r)) rs) i room))) (m .records)
-  answer-is n (Remap k i room) h = ap (λ ms. Accepted (length (page 5 (map mappingGroup ms) i room))) stream-is
-  answer-is n (Mappings k) h = ap (λ ms. Accepted (length ms)) stream-is
+  answer-is n own (Remap k i room) h = ap (λ ms. Accepted (length (page 5 (map mappingGroup ms) i room))) stream-is
+  answer-is n own (Mappings k) h = ap (λ ms. Accepted (length ms)) stream-is
+  answer-is n own (Allow k new) h = allow-is n new
 
   pub leaves-is : (call : Call) → Fits call → Shown (reckon call c) (leaves call t)
   unfolding reckon leaves withValues withSegments
@@ -169,27 +172,39 @@ module _ (c : Compartment) (t : Table) (m : Shown c t) where
   leaves-is (Permissions k i n) h = m
   leaves-is (Remap k i n) h = m
   leaves-is (Mappings k) h = m
+  leaves-is (Allow k n) h = m
 
-module _ (s : State) (ts : List Table) (m : Shows s ts) (call : Call) (fit : Fits call) where
+module _ (s : State) (ts : Shelf) (m : Shows s ts) (call : Call) (fit : Fits call) where
   pub asks-is : answer s call ≡ asksOn ts call
-  unfolding answer asksOn compartment
+  unfolding answer asksOn compartment allowance
   asks-is =
       ap (ask _)
-      (answer-is (getD s (compartmentOf call) empty) (getD ts (compartmentOf call) noTable) (at-is s ts (compartmentOf call) m) (used s) call fit
-      ∙ ap (λ n. answerOn n (getD ts (compartmentOf call) noTable) call) (used-is s ts m))
+      (answer-is (getD (s .compartments) (compartmentOf call) empty) (getD (ts .tables) (compartmentOf call) noTable)
+      (at-is (s .compartments) (ts .tables) (compartmentOf call) (m .tables)) (others (s .allowances) (compartmentOf call)) (getD (s .allowances) (compartmentOf call) 0) call fit
+      ∙ ap (λ ms. answerOn (others ms (compartmentOf call)) (getD ms (compartmentOf call) 0) (getD (ts .tables) (compartmentOf call) noTable) call) (m .allowances))
 
   pub next-is : Shows (next s call) (nextOn ts call)
-  unfolding next nextOn compartment
+  unfolding next nextOn compartment allowance
   next-is = rw (← asks-is) (go (accepted (answer s call)))
     where
       k : ℕ
       k = compartmentOf call
 
-      go : (b : Bool) → Shows (if b then set s k (reckon call (getD s k empty)) else s) (if b then set ts k (leaves call (getD ts k noTable)) else ts)
-      go true = set-is s ts k _ _ (leaves-is (getD s k empty) (getD ts k noTable) (at-is s ts k m) call fit) m
+      cs : State
+      cs = record { compartments = set (s .compartments) k (reckon call (getD (s .compartments) k empty)); allowances = set (s .allowances) k (allowed call (getD (s .allowances) k 0)) }
+
+      us : Shelf
+      us = record { tables = set (ts .tables) k (leaves call (getD (ts .tables) k noTable)); allowances = set (ts .allowances) k (allowed call (getD (ts .allowances) k 0)) }
+
+      go : (b : Bool) → Shows (if b then cs else s) (if b then us else ts)
+      go true =
+          record {
+            tables = set-is (s .compartments) (ts .tables) k _ _ (leaves-is (getD (s .compartments) k empty) (getD (ts .tables) k noTable) (at-is (s .compartments) (ts .tables) k (m .tables)) call fit) (m .tables);
+            allowances = ap (λ ms. set ms k (allowed call (getD ms k 0))) (m .allowances);
+          }
       go false = m
 
-pub after-is : (calls : List Call) (s : State) (ts : List Table) → AllFit calls → Shows s ts → Shows (afterFrom s calls) (afterOn ts calls)
+pub after-is : (calls : List Call) (s : State) (ts : Shelf) → AllFit calls → Shows s ts → Shows (afterFrom s calls) (afterOn ts calls)
 unfolding afterFrom afterOn
 after-is [] s ts h m = m
 after-is (c ∷ cs) s ts h m = after-is cs (next s c) (nextOn ts c) (h .1) (next-is s ts m c (h .0))

@@ -11,14 +11,15 @@ use Rattle.definitions.specs.Stream.{stream}
 use Rattle.definitions.specs.Pages.{page, mappingGroup, permissionGroup}
 use Rattle.definitions.specs.Reckoning.{compartmentOf, empty, withSegments}
 use Rattle.definitions.specs.Questions.{ask, accepted, ranged, everyNamed, begun, lastEnd, cutsFit, canLower, onOverlaps, onMap, onUnmap, onUnmapGpa}
+use Rattle.definitions.specs.Calls.{others, allowed}
 use Rattle.definitions.specs.declared.addr.HostAddr.{HostAddr}
 use Rattle.definitions.specs.declared.region.Region.{Region}
 use Rattle.definitions.specs.declared.remapper.Segment.{Segment}
-use Rattle.definitions.specs.declared.answer.Refusal.the-variants.{NoCompartment, CountFull, OutOfMemory, InvalidRegion, EndedBefore, CountEmpty}
+use Rattle.definitions.specs.declared.answer.Refusal.the-variants.{NoCompartment, CountFull, OutOfMemory, InvalidRegion, EndedBefore, CountEmpty, PoolExceeded, StillInUse}
 use Rattle.definitions.specs.declared.answer.Answer.{Answer}
 use Rattle.definitions.specs.declared.answer.Answer.the-variants.{Accepted}
 use Rattle.definitions.specs.declared.call.Call.{Call}
-use Rattle.definitions.specs.declared.call.Call.the-variants.{Add, Remove, Refcount, Overlaps, Map, Unmap, UnmapGpa, Permissions, Remap, Mappings}
+use Rattle.definitions.specs.declared.call.Call.the-variants.{Add, Remove, Refcount, Overlaps, Map, Unmap, UnmapGpa, Permissions, Remap, Mappings, Allow}
 use Rattle.definitions.proofs.Lists.{added, removed}
 use Rattle.definitions.proofs.PeakLaws.{gaps}
 
@@ -48,33 +49,37 @@ removeChangeOn a e rights rs =
     && ((q .values .refcount =? 1) || not (everyNamed (λ n. not (n =? 1)) rights (q .values)))) rs)
 
 unfoldable pub addOn : ℕ → List Region → HostAddr → HostAddr → ℕ → Answer
-addOn used rs a e rights =
+addOn allowance rs a e rights =
     ranged a e rights
-    (ask ((canRaiseOn a e rights rs, CountFull) ∷ (used + newRecordsOn a e rs ≤? 1024, OutOfMemory) ∷ [])
+    (ask ((canRaiseOn a e rights rs, CountFull) ∷ (length rs + newRecordsOn a e rs ≤? allowance, OutOfMemory) ∷ [])
     (Accepted (addChangeOn a e rights rs)))
 
 unfoldable pub removeOn : ℕ → List Region → HostAddr → HostAddr → ℕ → Answer
-removeOn used rs a e rights =
+removeOn allowance rs a e rights =
     ranged a e rights
     (ask
     ((1 ≤? length (begun a rs), InvalidRegion) ∷ (a .0 <? lastEnd 0 (begun a rs), EndedBefore)
-    ∷ (cutsFit used a e rs, OutOfMemory) ∷ (canLower a e rights rs, CountEmpty) ∷ [])
+    ∷ (cutsFit (length rs) allowance a e rs, OutOfMemory) ∷ (canLower a e rights rs, CountEmpty) ∷ [])
     (Accepted (removeChangeOn a e rights rs)))
 
--- what a call answers of this table, beside so many records in use
-unfoldable pub answerOn : ℕ → Table → Call → Answer
-answerOn n t (Add k a e r) = addOn n (t .records) a e r
-answerOn n t (Remove k a e r) = removeOn n (t .records) a e r
-answerOn n t (Refcount k a e) = Accepted (refcountOf a e (t .records))
-answerOn n t (Overlaps k g size) = onOverlaps (withSegments empty (t .segments)) g size
-answerOn n t (Map k h g size r) = onMap (withSegments empty (t .segments)) h g size r
-answerOn n t (Unmap k h size) = onUnmap (withSegments empty (t .segments)) h size
-answerOn n t (UnmapGpa k g size) = onUnmapGpa (withSegments empty (t .segments)) g size
-answerOn n t (Permissions k i room) =
+unfoldable pub allowOn : ℕ → List Region → ℕ → Answer
+allowOn others rs n = ask ((others + n ≤? 1024, PoolExceeded) ∷ (length rs ≤? n, StillInUse) ∷ []) (Accepted 0)
+
+-- what a call answers of this table, with the allowance m, where the others' are n together
+unfoldable pub answerOn : ℕ → ℕ → Table → Call → Answer
+answerOn n m t (Add k a e r) = addOn m (t .records) a e r
+answerOn n m t (Remove k a e r) = removeOn m (t .records) a e r
+answerOn n m t (Refcount k a e) = Accepted (refcountOf a e (t .records))
+answerOn n m t (Overlaps k g size) = onOverlaps (withSegments empty (t .segments)) g size
+answerOn n m t (Map k h g size r) = onMap (withSegments empty (t .segments)) h g size r
+answerOn n m t (Unmap k h size) = onUnmap (withSegments empty (t .segments)) h size
+answerOn n m t (UnmapGpa k g size) = onUnmapGpa (withSegments empty (t .segments)) g size
+answerOn n m t (Permissions k i room) =
     Accepted (length (page 3 (map (λ r. permissionGroup (permissionOf r)) (t .records)) i room))
-answerOn n t (Remap k i room) =
+answerOn n m t (Remap k i room) =
     Accepted (length (page 5 (map mappingGroup (stream (t .records) (t .segments))) i room))
-answerOn n t (Mappings k) = Accepted (length (stream (t .records) (t .segments)))
+answerOn n m t (Mappings k) = Accepted (length (stream (t .records) (t .segments)))
+answerOn n m t (Allow k new) = allowOn n (t .records) new
 
 -- what an accepted call leaves
 unfoldable pub leaves : Call → Table → Table
@@ -88,24 +93,30 @@ leaves (Overlaps k g n) t = t
 leaves (Permissions k i n) t = t
 leaves (Remap k i n) t = t
 leaves (Mappings k) t = t
+leaves (Allow k n) t = t
 
--- eight tables
-unfoldable pub startOn : List Table
-startOn = replicate 8 noTable
+-- eight tables, and the allowances beside them
+pub record Shelf : Type 0 where
+  pub tables : List Table
+  pub allowances : List ℕ
 
-unfoldable pub usedOn : List Table → ℕ
-usedOn [] = 0
-usedOn (t ∷ ts) = length (t .records) + usedOn ts
+unfoldable pub startOn : Shelf
+startOn = record { tables = replicate 8 noTable; allowances = replicate 8 128 }
 
-unfoldable pub asksOn : List Table → Call → Answer
+unfoldable pub asksOn : Shelf → Call → Answer
 asksOn ts call =
-    ask ((compartmentOf call <? 8, NoCompartment) ∷ []) (answerOn (usedOn ts) (getD ts (compartmentOf call) noTable) call)
+    ask ((compartmentOf call <? 8, NoCompartment) ∷ [])
+    (answerOn (others (ts .allowances) (compartmentOf call)) (getD (ts .allowances) (compartmentOf call) 0)
+    (getD (ts .tables) (compartmentOf call) noTable) call)
 
-unfoldable pub nextOn : List Table → Call → List Table
+unfoldable pub nextOn : Shelf → Call → Shelf
 nextOn ts call =
-    if accepted (asksOn ts call) then set ts (compartmentOf call) (leaves call (getD ts (compartmentOf call) noTable))
-    else ts
+    if accepted (asksOn ts call)
+    then record {
+      tables = set (ts .tables) (compartmentOf call) (leaves call (getD (ts .tables) (compartmentOf call) noTable));
+      allowances = set (ts .allowances) (compartmentOf call) (allowed call (getD (ts .allowances) (compartmentOf call) 0));
+    } else ts
 
-unfoldable pub afterOn : List Table → List Call → List Table
+unfoldable pub afterOn : Shelf → List Call → Shelf
 afterOn ts [] = ts
 afterOn ts (c ∷ cs) = afterOn (nextOn ts c) cs

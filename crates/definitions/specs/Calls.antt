@@ -1,5 +1,5 @@
--- Document 01, "Modules, leaves first", 4 and 6, and "Questions in order", 1: eight compartments over 1,024 records, what
--- each call answers and leaves, and what a list of calls leaves.
+-- Document 01, "Modules, leaves first", 4 and 6, and "Questions in order", 1; document 02, order 4: eight compartments, each
+-- with its allowance of the 1,024 records, what each call answers and leaves, and what a list of calls leaves.
 use Prim.Native.Nat.{ℕ, _+_}
 use mathlib.Core.Bool.{Bool}
 use mathlib.Core.List.{List, [], _∷_, map}
@@ -9,28 +9,37 @@ use Rattle.definitions.specs.Regions.{regions, permissionOf}
 use Rattle.definitions.specs.Stream.{stream}
 use Rattle.definitions.specs.Pages.{page, mappingGroup, permissionGroup, regionGroup, segmentGroup}
 use Rattle.definitions.specs.Reckoning.{Compartment, empty, reckon, compartmentOf}
-use Rattle.definitions.specs.Questions.{ask, accepted, onAdd, onRemove, onRefcount, onOverlaps, onMap, onUnmap, onUnmapGpa}
+use Rattle.definitions.specs.Questions.{ask, accepted, onAdd, onRemove, onRefcount, onOverlaps, onMap, onUnmap, onUnmapGpa, onAllow}
 use Rattle.definitions.specs.declared.remapper.Mapping.{Mapping}
 use Rattle.definitions.specs.declared.answer.Refusal.the-variants.{NoCompartment}
 use Rattle.definitions.specs.declared.answer.Answer.{Answer}
 use Rattle.definitions.specs.declared.answer.Answer.the-variants.{Accepted}
 use Rattle.definitions.specs.declared.call.Call.{Call}
-use Rattle.definitions.specs.declared.call.Call.the-variants.{Add, Remove, Refcount, Overlaps, Map, Unmap, UnmapGpa, Permissions, Remap, Mappings}
+use Rattle.definitions.specs.declared.call.Call.the-variants.{Add, Remove, Refcount, Overlaps, Map, Unmap, UnmapGpa, Permissions, Remap, Mappings, Allow}
 
--- the compartments, each as it is reckoned; at first all are empty
-abbrev pub State : Type 0
-State = List Compartment
+-- the compartments, each as it is reckoned; and beside them, since no reckoning knows of it, the allowance of each (document 02,
+-- order 4)
+pub record State : Type 0 where
+  pub compartments : List Compartment
+  pub allowances : List ℕ
 
+-- at first all are empty. Document 02, order 4: each compartment gets its own allowance, at first 128.
 unfoldable pub start : State
-start = replicate 8 empty
+start = record { compartments = replicate 8 empty; allowances = replicate 8 128 }
 
 unfoldable pub compartment : State → ℕ → Compartment
-compartment s k = getD s k empty
+compartment s k = getD (s .compartments) k empty
 
--- the pool's records in use
-unfoldable pub used : State → ℕ
-used [] = 0
-used (c ∷ cs) = length (regions (c .values)) + used cs
+unfoldable pub allowance : State → ℕ → ℕ
+allowance s k = getD (s .allowances) k 0
+
+-- the allowances together, and together without compartment k's
+unfoldable pub together : List ℕ → ℕ
+together [] = 0
+together (m ∷ ms) = m + together ms
+
+unfoldable pub others : List ℕ → ℕ → ℕ
+others ms k = together (set ms k 0)
 
 -- a compartment's stream and its permissions, and the groups of numbers that pages of them take
 unfoldable pub streamOf : Compartment → List Mapping
@@ -49,30 +58,49 @@ regionGroups c = map regionGroup (regions (c .values))
 unfoldable pub segmentGroups : Compartment → List (List ℕ)
 segmentGroups c = map segmentGroup (c .segments)
 
--- what a call answers that names compartment c, beside so many records in use
-unfoldable pub answerIn : ℕ → Compartment → Call → Answer
-answerIn n c (Add k a e r) = onAdd n c a e r
-answerIn n c (Remove k a e r) = onRemove n c a e r
-answerIn n c (Refcount k a e) = onRefcount c a e
-answerIn n c (Overlaps k g size) = onOverlaps c g size
-answerIn n c (Map k h g size t) = onMap c h g size t
-answerIn n c (Unmap k h size) = onUnmap c h size
-answerIn n c (UnmapGpa k g size) = onUnmapGpa c g size
-answerIn n c (Permissions k i room) = Accepted (length (page 3 (permissionGroups c) i room))
-answerIn n c (Remap k i room) = Accepted (length (page 5 (streamGroups c) i room))
-answerIn n c (Mappings k) = Accepted (length (streamOf c))
+-- what a call answers that names compartment c, whose allowance is m, where the others' are n together
+unfoldable pub answerIn : ℕ → ℕ → Compartment → Call → Answer
+answerIn n m c (Add k a e r) = onAdd m c a e r
+answerIn n m c (Remove k a e r) = onRemove m c a e r
+answerIn n m c (Refcount k a e) = onRefcount c a e
+answerIn n m c (Overlaps k g size) = onOverlaps c g size
+answerIn n m c (Map k h g size t) = onMap c h g size t
+answerIn n m c (Unmap k h size) = onUnmap c h size
+answerIn n m c (UnmapGpa k g size) = onUnmapGpa c g size
+answerIn n m c (Permissions k i room) = Accepted (length (page 3 (permissionGroups c) i room))
+answerIn n m c (Remap k i room) = Accepted (length (page 5 (streamGroups c) i room))
+answerIn n m c (Mappings k) = Accepted (length (streamOf c))
+answerIn n m c (Allow k new) = onAllow n c new
 
 -- Every call: 1 compartment below 8?
 unfoldable pub answer : State → Call → Answer
 answer s call =
     ask ((compartmentOf call <? 8, NoCompartment) ∷ [])
-    (answerIn (used s) (compartment s (compartmentOf call)) call)
+    (answerIn (others (s .allowances) (compartmentOf call)) (allowance s (compartmentOf call))
+    (compartment s (compartmentOf call)) call)
 
--- an accepted call changes its compartment as it is reckoned; a refused one alters nothing
+-- the allowance that an accepted call leaves its compartment. Document 02, order 4: setting it is a new call.
+unfoldable pub allowed : Call → ℕ → ℕ
+allowed (Allow k new) m = new
+allowed (Add k a e r) m = m
+allowed (Remove k a e r) m = m
+allowed (Refcount k a e) m = m
+allowed (Overlaps k g n) m = m
+allowed (Map k h g n t) m = m
+allowed (Unmap k h n) m = m
+allowed (UnmapGpa k g n) m = m
+allowed (Permissions k i n) m = m
+allowed (Remap k i n) m = m
+allowed (Mappings k) m = m
+
+-- an accepted call changes its compartment as it is reckoned, and S its allowance; a refused one alters nothing
 unfoldable pub next : State → Call → State
 next s call =
     if accepted (answer s call)
-    then set s (compartmentOf call) (reckon call (compartment s (compartmentOf call))) else s
+    then record {
+      compartments = set (s .compartments) (compartmentOf call) (reckon call (compartment s (compartmentOf call)));
+      allowances = set (s .allowances) (compartmentOf call) (allowed call (allowance s (compartmentOf call)));
+    } else s
 
 -- a list of calls, oldest first, each on what the last one left
 unfoldable pub afterFrom : State → List Call → State

@@ -2,7 +2,7 @@
 -- 3, ask for it.
 use Prim.Native.Nat.{ℕ, zero, suc, _+_}
 use mathlib.Core.Bool.{Bool, true, false, _&&_}
-use mathlib.Core.List.{List, [], _∷_}
+use mathlib.Core.List.{List, [], _∷_, _++_}
 use Rattle.definitions.specs.Tests.{_=?_, host, guest}
 use Rattle.definitions.specs.Values.{rightsOf}
 use Rattle.definitions.specs.Regions.{regions}
@@ -12,7 +12,7 @@ use Rattle.definitions.specs.declared.region.Region.{Region}
 use Rattle.definitions.specs.declared.remapper.Segment.{Segment}
 use Rattle.definitions.specs.declared.remapper.Mapping.{Mapping}
 use Rattle.definitions.specs.declared.call.Call.{Call}
-use Rattle.definitions.specs.declared.call.Call.the-variants.{Add, Remove, Overlaps, Map, Unmap, UnmapGpa}
+use Rattle.definitions.specs.declared.call.Call.the-variants.{Add, Remove, Overlaps, Map, Unmap, UnmapGpa, Allow}
 
 -- calls from empty tables, one call more, its number and value, and what compartment 0 then has: its regions as start, end
 -- and rights, its segments as hpa, gpa, size and repeat, its stream as hpa, gpa, size, repeat and rights
@@ -96,9 +96,15 @@ two = add 0 10 1 ∷ add 20 30 1 ∷ []
 unfoldable pub stored : List Call
 stored = map 100 1000 10 1 ∷ []
 
+-- Document 02, order 4: the layouts with 1,024 records first set the other compartments to 0, then theirs to 1,024.
+unfoldable pub allPool : List Call
+allPool =
+    Allow 1 0 ∷ Allow 2 0 ∷ Allow 3 0 ∷ Allow 4 0 ∷ Allow 5 0 ∷ Allow 6 0 ∷ Allow 7 0 ∷ Allow 0 1024 ∷ []
+
 -- 1,024 single addresses 0, 2, .. 2046: add [0,2) is 5
 unfoldable pub crowdedRow : Row
-crowdedRow = row (singleAdds 0 1024) (add 0 2 1) 5 0 (singleRows 0 1024) [] (singleMappings 0 1024)
+crowdedRow =
+    row (allPool ++ singleAdds 0 1024) (add 0 2 1) 5 0 (singleRows 0 1024) [] (singleMappings 0 1024)
 
 -- the other starred layouts, and after the two that order 1 changed: an empty range inside a stored span, a span found behind
 -- a segment of a higher guest address, an identity map, which is asked 11 too, and spans that only touch; after the two that
@@ -139,5 +145,18 @@ smallRows =
     ((0, 0, 5, 1, 3) ∷ (5, 100, 20, 1, 3) ∷ (10, 200, 5, 1, 3) ∷ (25, 25, 5, 1, 3) ∷ [])
     ∷ []
 
+-- document 02, order 4, allowances: 8 × 128 is all there is; what another gives up can be had; 5 by the caller's own, with most
+-- of the pool free; no less than is in use
+unfoldable pub allowanceRows : List Row
+allowanceRows =
+    row [] (Allow 0 129) 18 0 [] [] []
+    ∷ row (Allow 1 127 ∷ []) (Allow 0 129) 0 0 [] [] []
+    ∷ row (Allow 0 1 ∷ add 0 10 1 ∷ []) (add 20 30 1) 5 0 ((0, 10, 1) ∷ []) [] ((0, 0, 10, 1, 1) ∷ [])
+    ∷ row (Allow 0 1 ∷ add 0 10 1 ∷ Allow 0 2 ∷ []) (add 20 30 1) 0 1 ((0, 10, 1) ∷ (20, 30, 1) ∷ []) []
+    ((0, 0, 10, 1, 1) ∷ (20, 20, 10, 1, 1) ∷ [])
+    ∷ row two (Allow 0 1) 19 0 ((0, 10, 1) ∷ (20, 30, 1) ∷ []) [] ((0, 0, 10, 1, 1) ∷ (20, 20, 10, 1, 1) ∷ [])
+    ∷ row two (Allow 0 2) 0 0 ((0, 10, 1) ∷ (20, 30, 1) ∷ []) [] ((0, 0, 10, 1, 1) ∷ (20, 20, 10, 1, 1) ∷ [])
+    ∷ []
+
 unfoldable pub rows : List Row
-rows = crowdedRow ∷ smallRows
+rows = crowdedRow ∷ smallRows ++ allowanceRows

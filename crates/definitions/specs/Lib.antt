@@ -11,3 +11,4 @@ pub mod Questions
 pub mod Calls
 pub mod Script
 pub mod Layouts
+pub mod Independence

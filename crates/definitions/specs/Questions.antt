@@ -1,4 +1,4 @@
--- Document 01, "Questions in order, with the number for no".
+-- Document 01, "Questions in order, with the number for no", and document 02, order 4.
 use Prim.Native.Nat.{ℕ, _+_, _-_, _*_}
 use mathlib.Core.Bool.{Bool, true, false, not, _&&_, _||_}
 use mathlib.Core.List.{List, [], _∷_}
@@ -13,7 +13,7 @@ use Rattle.definitions.specs.declared.addr.GuestAddr.{GuestAddr}
 use Rattle.definitions.specs.declared.region.Values.{Values}
 use Rattle.definitions.specs.declared.region.Region.{Region}
 use Rattle.definitions.specs.declared.answer.Refusal.{Refusal}
-use Rattle.definitions.specs.declared.answer.Refusal.the-variants.{NoCompartment, InvalidMemOps, InvalidRange, CountFull, OutOfMemory, InvalidRegion, EndedBefore, CountEmpty, EmptySegment, Overflow, AlreadyAliased, NoSlot, Repeated, OthersTouched, Malformed}
+use Rattle.definitions.specs.declared.answer.Refusal.the-variants.{NoCompartment, InvalidMemOps, InvalidRange, CountFull, OutOfMemory, InvalidRegion, EndedBefore, CountEmpty, EmptySegment, Overflow, AlreadyAliased, NoSlot, Repeated, OthersTouched, Malformed, PoolExceeded, StillInUse}
 use Rattle.definitions.specs.declared.answer.Answer.{Answer}
 use Rattle.definitions.specs.declared.answer.Answer.the-variants.{Accepted, Refused}
 
@@ -34,6 +34,8 @@ refusalNumber NoSlot = 12
 refusalNumber Repeated = 15
 refusalNumber OthersTouched = 16
 refusalNumber Malformed = 17
+refusalNumber PoolExceeded = 18
+refusalNumber StillInUse = 19
 
 -- the answer's number (0 or refusal), and its value (0 when refused)
 abbrev pub numberOf : Answer → ℕ
@@ -64,11 +66,15 @@ unfoldable pub canRaise : HostAddr → HostAddr → ℕ → (HostAddr → Values
 canRaise a e rights f =
     all (λ x. (f x .refcount <? 65535) && everyNamed (λ n. n <? 65535) rights (f x)) (addresses a e)
 
--- 5 of a remove: a free record at each cut, beside the records in use?
-unfoldable pub cutsFit : ℕ → HostAddr → HostAddr → List Region → Bool
-cutsFit used a e rs =
+-- a compartment's records in use
+abbrev pub inUse : Compartment → ℕ
+inUse c = length (regions (c .values))
+
+-- 5 of a remove: a free record at each cut, where so many are in use and so many allowed (document 02, order 4)?
+unfoldable pub cutsFit : ℕ → ℕ → HostAddr → HostAddr → List Region → Bool
+cutsFit used allowed a e rs =
     let atStart = used + bit (any (splits a) rs) in
-    (atStart ≤? 1024) && (not (any (splits e) rs) || (atStart - freed a e rs + 1 ≤? 1024))
+    (atStart ≤? allowed) && (not (any (splits e) rs) || (atStart - freed a e rs + 1 ≤? allowed))
 
 -- 6: does a record begin at or below start? 7: does the last such reach above start?
 unfoldable pub begun : HostAddr → List Region → List Region
@@ -82,25 +88,27 @@ lastEnd end (q ∷ qs) = lastEnd (q .end .0) qs
 unfoldable pub canLower : HostAddr → HostAddr → ℕ → List Region → Bool
 canLower a e rights rs = all (λ q. everyNamed (λ n. 0 <? n) rights (q .values)) (keep (meets a e) rs)
 
--- add and remove: 2, 3, (equal: done), then 4 and 5, or 6, 7, 5 and 8; beside the records in use in all compartments
+-- add and remove: 2, 3, (equal: done), then 4 and 5, or 6, 7, 5 and 8
 unfoldable pub ranged : HostAddr → HostAddr → ℕ → Answer → Answer
 ranged a e rights answer =
     ask ((rights <? 32, InvalidMemOps) ∷ (a .0 ≤? e .0, InvalidRange) ∷ []) (if a .0 =? e .0 then Accepted 0 else answer)
 
+-- Document 02, order 4: question 5 compares with the caller's allowance only, at the same peaks.
 unfoldable pub onAdd : ℕ → Compartment → HostAddr → HostAddr → ℕ → Answer
-onAdd used c a e rights =
+onAdd allowance c a e rights =
     ranged a e rights
     (ask
-    ((canRaise a e rights (c .values), CountFull) ∷ (used + newRecords a e (c .values) ≤? 1024, OutOfMemory) ∷ [])
+    ((canRaise a e rights (c .values), CountFull)
+    ∷ (inUse c + newRecords a e (c .values) ≤? allowance, OutOfMemory) ∷ [])
     (Accepted (addChange a e rights (c .values))))
 
 unfoldable pub onRemove : ℕ → Compartment → HostAddr → HostAddr → ℕ → Answer
-onRemove used c a e rights =
+onRemove allowance c a e rights =
     let rs = regions (c .values) in
     ranged a e rights
     (ask
     ((1 ≤? length (begun a rs), InvalidRegion) ∷ (a .0 <? lastEnd 0 (begun a rs), EndedBefore)
-    ∷ (cutsFit used a e rs, OutOfMemory) ∷ (canLower a e rights rs, CountEmpty) ∷ [])
+    ∷ (cutsFit (inUse c) allowance a e rs, OutOfMemory) ∷ (canLower a e rights rs, CountEmpty) ∷ [])
     (Accepted (removeChange a e rights (c .values))))
 
 unfoldable pub onRefcount : Compartment → HostAddr → HostAddr → Answer
@@ -135,3 +143,8 @@ onUnmapGpa c g n =
     ∷ (not (any (spanInside g e) ss) || (length hit =? 1), OthersTouched)
     ∷ (length (unmappedGpa g n ss) ≤? 64, NoSlot) ∷ [])
     (Accepted 0)
+
+-- Document 02, order 4, S: 18 when the allowances would pass 1,024 together; then 19 when the compartment's records in use exceed
+-- the new allowance
+unfoldable pub onAllow : ℕ → Compartment → ℕ → Answer
+onAllow others c n = ask ((others + n ≤? 1024, PoolExceeded) ∷ (inUse c ≤? n, StillInUse) ∷ []) (Accepted 0)

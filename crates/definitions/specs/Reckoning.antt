@@ -10,7 +10,7 @@ use Rattle.definitions.specs.declared.addr.HostAddr.{HostAddr}
 use Rattle.definitions.specs.declared.region.Values.{Values}
 use Rattle.definitions.specs.declared.remapper.Segment.{Segment}
 use Rattle.definitions.specs.declared.call.Call.{Call}
-use Rattle.definitions.specs.declared.call.Call.the-variants.{Add, Remove, Refcount, Overlaps, Map, Unmap, UnmapGpa, Permissions, Remap, Mappings}
+use Rattle.definitions.specs.declared.call.Call.the-variants.{Add, Remove, Refcount, Overlaps, Map, Unmap, UnmapGpa, Permissions, Remap, Mappings, Allow}
 
 -- It keeps each address's six values, at first 0, and a segment list of its own, at first empty.
 pub record Compartment : Type 0 where
@@ -39,6 +39,7 @@ reckon (Overlaps k g n) c = c
 reckon (Permissions k i n) c = c
 reckon (Remap k i n) c = c
 reckon (Mappings k) c = c
+reckon (Allow k n) c = c
 
 -- the compartment that a call names
 unfoldable pub compartmentOf : Call → ℕ
@@ -52,6 +53,7 @@ compartmentOf (UnmapGpa k g n) = k
 compartmentOf (Permissions k i n) = k
 compartmentOf (Remap k i n) = k
 compartmentOf (Mappings k) = k
+compartmentOf (Allow k n) = k
 
 -- compartment k's reckoning of calls, oldest first, each with whether it was accepted
 unfoldable pub reckonFrom : ℕ → Compartment → List (Call × Bool) → Compartment

@@ -12,7 +12,7 @@ use Rattle.definitions.specs.declared.answer.Refusal.the-variants.{Malfo
 use Rattle.definitions.specs.declared.answer.Answer.{Answer}
 use Rattle.definitions.specs.declared.answer.Answer.the-variants.{Refused}
 use Rattle.definitions.specs.declared.call.Call.{Call}
-use Rattle.definitions.specs.declared.call.Call.the-variants.{Add, Remove, Refcount, Overlaps, Map, Unmap, UnmapGpa, Permissions, Remap, Mappings}
+use Rattle.definitions.specs.declared.call.Call.the-variants.{Add, Remove, Refcount, Overlaps, Map, Unmap, UnmapGpa, Permissions, Remap, Mappings, Allow}
 
 -- Lines end with byte 10, which the last may lack.
 unfoldable pub consByte : ℕ → List (List ℕ) → List (List ℕ)
@@ -62,11 +62,12 @@ columnsOf [] (b ∷ bs) = unread
 columnsOf (w ∷ ws) bs =
     if w ≤? length bs then firstThen (columnOf (take w bs)) (columnsOf ws (drop w bs)) else unread
 
--- A and D (add, remove) start end rights; C (`get_refcount`) start end; M hpa gpa size repeat; U hpa size; G gpa size; P none
+-- A and D (add, remove) start end rights; C (`get_refcount`) start end; M hpa gpa size repeat; U hpa size; G gpa size; P none;
+-- S with the allowance (document 02, order 4)
 unfoldable pub arity : ℕ → ℕ
 arity letter =
     if letter =? 65 then 3 else if letter =? 68 then 3 else if letter =? 67 then 2 else if letter =? 77 then 4
-    else if letter =? 85 then 2 else if letter =? 71 then 2 else 0
+    else if letter =? 85 then 2 else if letter =? 71 then 2 else if letter =? 83 then 1 else 0
 
 -- what a line says: a call, or 17
 pub data Line : Type 0 where
@@ -75,6 +76,7 @@ pub data Line : Type 0 where
 
 abbrev pub callOf : ℕ → Read → Line
 callOf letter (numbers (k ∷ [])) = if letter =? 80 then call (Mappings k) else malformed
+callOf letter (numbers (k ∷ a ∷ [])) = if letter =? 83 then call (Allow k a) else malformed
 callOf letter (numbers (k ∷ a ∷ b ∷ [])) =
     if letter =? 67 then call (Refcount k (host a) (host b))
     else if letter =? 85 then call (Unmap k (host a) b)
@@ -87,7 +89,6 @@ callOf letter (numbers (k ∷ a ∷ b ∷ c ∷ [])) =
 callOf letter (numbers (k ∷ a ∷ b ∷ c ∷ d ∷ [])) =
     if letter =? 77 then call (Map k (host a) (guest b) c d) else malformed
 callOf letter (numbers []) = malformed
-callOf letter (numbers (k ∷ a ∷ [])) = malformed
 callOf letter (numbers (k ∷ a ∷ b ∷ c ∷ d ∷ e ∷ ns)) = malformed
 callOf letter unread = malformed
 
@@ -130,6 +131,7 @@ mappingLines s (Unmap k h n) = []
 mappingLines s (UnmapGpa k g n) = []
 mappingLines s (Permissions k i n) = []
 mappingLines s (Remap k i n) = []
+mappingLines s (Allow k n) = []
 
 -- what a line prints, and what it leaves
 abbrev pub printed : State → Line → List (List ℕ)

@@ -8,7 +8,7 @@ pub enum Refusal {
     InvalidMemOps, // 2: the rights are below 32
     InvalidRange, // 3: start is at most end
     CountFull, // 4: every count to be raised is below 65,535
-    OutOfMemory, // 5: there are enough free records
+    OutOfMemory, // 5: the records, at their most, are within the allowance
     InvalidRegion, // 6: a record begins at or below start
     EndedBefore, // 7: the last such reaches above start
     CountEmpty, // 8: every count to be lowered is above 0
@@ -19,6 +19,8 @@ pub enum Refusal {
     Repeated, // 15: what a guest unmap cuts has repeat 1
     OthersTouched, // 16: a range strictly inside one segment touches no other; never a no since order 1
     Malformed, // 17: the script line has the form
+    PoolExceeded, // 18: the allowances are together at most 1,024
+    StillInUse, // 19: the compartment's records in use are within the new allowance
 }
 
 // Accepted with a value, or refused.
@@ -47,6 +49,8 @@ impl Refusal {
             Refusal::Repeated => 15,
             Refusal::OthersTouched => 16,
             Refusal::Malformed => 17,
+            Refusal::PoolExceeded => 18,
+            Refusal::StillInUse => 19,
         }
     }
 }

@@ -15,6 +15,7 @@ pub enum Call {
     Permissions(u64, u64, u64), // a page from this permission on, into so many numbers
     Remap(u64, u64, u64), // a page from this mapping on, into so many numbers
     Mappings(u64), // how many mappings the stream has
+    Allow(u64, u64), // the allowance of records that the compartment gets
 }
 
 impl Call {
@@ -33,6 +34,7 @@ impl Call {
             Call::Permissions(k, _, _) => k,
             Call::Remap(k, _, _) => k,
             Call::Mappings(k) => k,
+            Call::Allow(k, _) => k,
         }
     }
 }

@@ -33,6 +33,9 @@ enum-known-self-9 c = search needs
 enum-known-self-10 : tie.Need-enum-known-self-10
 enum-known-self-10 c = search needs
 
+enum-known-self-11 : tie.Need-enum-known-self-11
+enum-known-self-11 c = search needs
+
 returns : tie.Need-returns
 unfolding compartmentOf
 returns c = rw (c .before .self .given .1)
@@ -73,6 +76,10 @@ returns-10 : tie.Need-returns-10
 unfolding compartmentOf
 returns-10 c = rw (c .before .self10 .given .1)
 
+returns-11 : tie.Need-returns-11
+unfolding compartmentOf
+returns-11 c = rw (c .before .self11 .given .1)
+
 pub compartment-spec : {M : Type 1} → statement M
 compartment-spec =
     tie.close
@@ -87,6 +94,7 @@ compartment-spec =
     enum-known-self-8
     enum-known-self-9
     enum-known-self-10
+    enum-known-self-11
     returns
     returns-2
     returns-3
@@ -96,4 +104,5 @@ compartment-spec =
     returns-7
     returns-8
     returns-9
-    returns-10)
+    returns-10
+    returns-11)
