@@ -1,8 +1,8 @@
 -- Eight empty compartments over a pool whose slots are all free.
 use Prim.Native.Nat.{ℕ, zero, suc, _+_, _≤_, _<_}
-use mathlib.Core.Path.{_≡_, refl, sym, ap, _∙_}
+use mathlib.Core.Path.{_≡_, refl, sym, ap, ap₂, _∙_}
 use mathlib.Core.Bool.{Bool, true, false, true≢false}
-use mathlib.Core.List.{List, []}
+use mathlib.Core.List.{List, [], _∷_}
 use native.Mathlib.Omega.{arith}
 use native.Mathlib.Decide.{ℕ-discrete}
 use lib.ListN.{length, replicate}
@@ -23,7 +23,7 @@ use Rattle.capability_engine.specs.declared.compartments.Tables.{Tables}
 use Rattle.capability_engine.specs.PoolChain.{cnt, slots, records}
 use Rattle.capability_engine.specs.PoolOwn.{heap, freeOf}
 use Rattle.capability_engine.specs.RemapHeld as remap
-use Rattle.capability_engine.specs.CompartmentGrown.{Holding, Holds, inLists, allLong, Trackers, trackersOf, Pooled, Remapped, Sized, Creates, noTrackers}
+use Rattle.capability_engine.specs.CompartmentGrown.{Holding, Holds, inLists, allLong, allowancesOf, Trackers, trackersOf, Pooled, Remapped, Sized, Creates, noTrackers}
 use Rattle.capability_engine.proofs.PoolLinks.{slots-are, bit-same, bit-other}
 use Rattle.capability_engine.proofs.PoolHeaps.{free-is}
 
@@ -43,16 +43,17 @@ up-long : (k m : ℕ) → length (upFrom k m) ≡ m
 up-long k zero = refl
 up-long k (suc m) = ap suc (up-long (suc k) m)
 
-module _ (nx ws : List ℕ) (size : length nx ≡ 1025) (z : RegionTracker) (ez : z .head ≡ 1024) where
+module _ (nx ws : List ℕ) (size : length nx ≡ 1025) (z : RegionTracker) (ez : (z .head ≡ 1024) × (z .count ≡ 0) × (z .allowance ≡ 128)) where
   none-there : slots nx (z .head) ≡ []
-  none-there = slots-are (record { size = size; seg = ez; few = omega arith })
+  none-there = slots-are (record { size = size; seg = ez .0; few = omega arith })
 
   holds-one : Holding nx ws z empty
   unfolding noTable
   holds-one =
       record {
-        listed = rw none-there (record { size = size; seg = ez; few = omega arith });
+        listed = rw none-there (record { size = size; seg = ez .0; few = omega arith });
         shown = ap (records ws) none-there ∙ sym (shown-empty .records);
+        many = ez .1 ∙ ap length (sym (shown-empty .records));
       }
 
   holds-none : (n : ℕ) → Holds nx ws (replicate n z) (replicate n empty)
@@ -69,9 +70,17 @@ module _ (nx ws : List ℕ) (size : length nx ≡ 1025) (z : RegionTracker) (ez 
   long-none zero = refl
   long-none (suc n) = omega (arith, ap length none-there, long-none n)
 
-  holds-start : Holds nx ws (replicate 8 z) (after [])
+  holds-start : Holds nx ws (replicate 8 z) (after [] .compartments)
   unfolding after afterFrom start
   holds-start = holds-none 8
+
+  allowed-all : (n : ℕ) → allowancesOf (replicate n z) ≡ replicate n 128
+  allowed-all zero = refl
+  allowed-all (suc n) = ap₂ _∷_ (ez .2) (allowed-all n)
+
+  allowed-start : allowancesOf (replicate 8 z) ≡ after [] .allowances
+  unfolding after afterFrom start
+  allowed-start = allowed-all 8
 
   module _ (links gens : List ℕ) (arena : GenArena) (g : GrownArena 1024 links gens arena []) (lw : length ws ≡ 8192) where
     free-all : freeOf (heap links gens arena) ≡ upFrom 0 1024
@@ -84,6 +93,7 @@ module _ (nx ws : List ℕ) (size : length nx ≡ 1025) (z : RegionTracker) (ez 
           wordsSize = lw;
           arena = record { calls = []; grown = g };
           holds = holds-start;
+          allowed = allowed-start;
           once = λ x l.
               (let f : cnt x (freeOf (heap links gens arena)) ≡ 1 = ap (cnt x) free-all ∙ up-once x 0 1024 (omega arith) (omega arith) in
               omega (arith, in-none x 8));
@@ -93,9 +103,9 @@ module _ (nx ws : List ℕ) (size : length nx ≡ 1025) (z : RegionTracker) (ez 
         }
 
 -- eight trackers with nothing in their lists, and eight remappers with no segment
-pub empty-trackers : (z : RegionTracker) → z .head ≡ 1024 → _≡_ {A = Trackers} (record { arena = fresh; list = replicate 8 z }) noTrackers
+pub empty-trackers : (z : RegionTracker) → (z .head ≡ 1024) × (z .count ≡ 0) × (z .allowance ≡ 128) → _≡_ {A = Trackers} (record { arena = fresh; list = replicate 8 z }) noTrackers
 empty-trackers z ez =
-    let e : z ≡ record { head = 1024 } = λ i. record { head = ez i } in
+    let e : z ≡ record { head = 1024; count = 0; allowance = 128 } = λ i. record { head = ez .0 i; count = ez .1 i; allowance = ez .2 i } in
     ap (λ (y : RegionTracker). record { arena = fresh; list = replicate 8 y }) e
 
 bare-all : (m : Remapper) → remap.Holds m [] → (n : ℕ) → Remapped (replicate n m) (replicate n empty)
@@ -103,22 +113,22 @@ unfolding empty
 bare-all m h zero = tt
 bare-all m h (suc n) = (h, bare-all m h n)
 
-pub bare-remappers : (m : Remapper) → remap.Holds m [] → Remapped (replicate 8 m) start
+pub bare-remappers : (m : Remapper) → remap.Holds m [] → Remapped (replicate 8 m) (start .compartments)
 unfolding start
 bare-remappers m h = bare-all m h 8
 
-bare-grown : (m : Remapper) → remap.Holds m [] → Remapped (replicate 8 m) (after [])
+bare-grown : (m : Remapper) → remap.Holds m [] → Remapped (replicate 8 m) (after [] .compartments)
 unfolding after afterFrom
 bare-grown m h = bare-remappers m h
 
 -- refused: the slices are as they were
-pub not-made : (words nx links gens : List ℕ) (t : Tables) → trackersOf t ≡ noTrackers → Remapped (t .remappers) start → (Sized words nx links gens → ⊥)
+pub not-made : (words nx links gens : List ℕ) (t : Tables) → trackersOf t ≡ noTrackers → Remapped (t .remappers) (start .compartments) → (Sized words nx links gens → ⊥)
     → Creates words nx links gens links gens (record { tables = t; done = false })
 not-made words nx links gens t e b n =
     record { empty = e; bare = b; made = λ h. absurd (true≢false (sym h)); sized = λ s. absurd (n s); kept = λ _. (refl, refl) }
 
 module _ (words nx links gens links' gens' : List ℕ) (r : NewArena) (c : CreatesArena links links' gens gens' r) (ll : length links ≡ 1024) where
-  pub made-new : length words ≡ 8192 → length nx ≡ 1025 → (z : RegionTracker) → z .head ≡ 1024 → (m : Remapper) → remap.Holds m [] → (arena : GenArena) → r ≡ Arena arena
+  pub made-new : length words ≡ 8192 → length nx ≡ 1025 → (z : RegionTracker) → (z .head ≡ 1024) × (z .count ≡ 0) × (z .allowance ≡ 128) → (m : Remapper) → remap.Holds m [] → (arena : GenArena) → r ≡ Arena arena
       → Creates words nx links gens links' gens' (record { tables = record { arena = arena; trackers = replicate 8 z; remappers = replicate 8 m }; done = true })
   made-new lw ln z ez m hm arena e = go (eqb (length links) (length gens)) refl
     where
@@ -136,7 +146,7 @@ module _ (words nx links gens links' gens' : List ℕ) (r : NewArena) (c : Creat
             kept = λ h. absurd (true≢false h);
           }
 
-  pub not-even : (t : Tables) → trackersOf t ≡ noTrackers → Remapped (t .remappers) start → r ≡ Uneven → Creates words nx links gens links' gens' (record { tables = t; done = false })
+  pub not-even : (t : Tables) → trackersOf t ≡ noTrackers → Remapped (t .remappers) (start .compartments) → r ≡ Uneven → Creates words nx links gens links' gens' (record { tables = t; done = false })
   not-even t et b e = go (eqb (length links) (length gens)) refl
     where
       go : (b : Bool) → eqb (length links) (length gens) ≡ b → Creates words nx links gens links' gens' (record { tables = t; done = false })

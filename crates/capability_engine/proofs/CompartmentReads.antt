@@ -9,7 +9,7 @@ use Rattle.definitions.specs.Stream.{stream}
 use Rattle.definitions.specs.Pages.{page, mappingGroup, permissionGroup, regionGroup, segmentGroup}
 use Rattle.definitions.specs.Reckoning.{Compartment, reckon, compartmentOf}
 use Rattle.definitions.specs.Questions.{accepted, onRefcount, onOverlaps}
-use Rattle.definitions.specs.Calls.{compartment, used, streamOf, streamGroups, permissionGroups, regionGroups, segmentGroups, answerIn, answer, after}
+use Rattle.definitions.specs.Calls.{compartment, allowance, others, allowed, streamOf, streamGroups, permissionGroups, regionGroups, segmentGroups, answerIn, answer, after}
 use Rattle.definitions.specs.declared.addr.HostAddr.{HostAddr}
 use Rattle.definitions.specs.declared.addr.GuestAddr.{GuestAddr}
 use Rattle.definitions.specs.declared.region.Region.{Region}
@@ -50,7 +50,7 @@ module _ (words nx links gens : List ℕ) (t : Tables) (calls : List Call) (g : 
   grown-as : (more : List Call) → after more ≡ after calls → Grown words nx links gens t more
   grown-as more e =
       record {
-        pooled = repooled words nx links gens (trackersOf t) calls (g .pooled) more (rw e (g .pooled .holds));
+        pooled = repooled words nx links gens (trackersOf t) calls (g .pooled) more (rw e (g .pooled .holds)) (rw e);
         remapped = rw e (g .remapped);
       }
 
@@ -75,14 +75,14 @@ module _ (words nx links gens : List ℕ) (t : Tables) (calls : List Call) (g : 
         → ReadsPage w groups from calls call words nx links gens t out out (Refused NoCompartment)
     past-page w groups from out l = record { reads = past l; slice = no-page w _ (compartmentOf call) from out l }
 
-    module _ (l : compartmentOf call < 8) (same : (c : Compartment) → reckon call c ≡ c) where
-      reads : (x : Answer) → x ≡ answerIn (used (after calls)) (compartment (after calls) (compartmentOf call)) call → Reads calls call words nx links gens t x
+    module _ (l : compartmentOf call < 8) (same : (c : Compartment) → reckon call c ≡ c) (leaves : (m : ℕ) → allowed call m ≡ m) where
+      reads : (x : Answer) → x ≡ answerIn (others (after calls .allowances) (compartmentOf call)) (allowance (after calls) (compartmentOf call)) (compartment (after calls) (compartmentOf call)) call → Reads calls call words nx links gens t x
       reads x e =
-          record { answered = answer-in (after calls) call l x e; grown = grown-as (calls ++ (call ∷ [])) (after-snoc calls call ∙ next-read (after calls) call (same _)) }
+          record { answered = answer-in (after calls) call l x e; grown = grown-as (calls ++ (call ∷ [])) (after-snoc calls call ∙ next-read (after calls) call (same _) (leaves _)) }
 
       reads-page : (w : ℕ) (groups : Compartment → List (List ℕ)) (from : ℕ) (out out' : List ℕ) (n : ℕ)
           → Filled w (groups (compartment (after calls) (compartmentOf call))) from out out' n
-          → answerIn (used (after calls)) (compartment (after calls) (compartmentOf call)) call ≡ Accepted (length (page w (groups (compartment (after calls) (compartmentOf call))) from (length out)))
+          → answerIn (others (after calls .allowances) (compartmentOf call)) (allowance (after calls) (compartmentOf call)) (compartment (after calls) (compartmentOf call)) call ≡ Accepted (length (page w (groups (compartment (after calls) (compartmentOf call))) from (length out)))
           → ReadsPage w groups from calls call words nx links gens t out out' (Accepted n)
       reads-page w groups from out out' n f e =
           record { reads = reads (Accepted n) (ap Accepted (f .many) ∙ sym e); slice = page-left w _ (compartmentOf call) from out out' n l f }
@@ -91,8 +91,8 @@ module _ (words nx links gens : List ℕ) (t : Tables) (calls : List Call) (g : 
 
   module _ (k : ℕ) (lk : k < 8) where
     pub overlapped : (a : GuestAddr) (n : ℕ) (r : Answer) → r ≡ onOverlaps (compartment (after calls) k) a n → Reads calls (Overlaps k a n) words nx links gens t r
-    unfolding compartmentOf reckon answerIn
-    overlapped a n r e = reads (Overlaps k a n) lk (λ c. refl) r e
+    unfolding compartmentOf reckon allowed answerIn
+    overlapped a n r e = reads (Overlaps k a n) lk (λ c. refl) (λ m. refl) r e
 
     module _ (d : RegionTracker) where
       abbrev stored : List Region
@@ -102,19 +102,19 @@ module _ (words nx links gens : List ℕ) (t : Tables) (calls : List Call) (g : 
       stored-are = here words nx links gens (trackersOf t) calls (g .pooled) k lk d .shown
 
       pub counted : (a e : HostAddr) (n : ℕ) → n ≡ refcountOf a e stored → Reads calls (Refcount k a e) words nx links gens t (Accepted n)
-      unfolding compartmentOf reckon answerIn onRefcount
-      counted a e n en = reads (Refcount k a e) lk (λ c. refl) (Accepted n) (ap Accepted (en ∙ ap (refcountOf a e) stored-are))
+      unfolding compartmentOf reckon allowed answerIn onRefcount
+      counted a e n en = reads (Refcount k a e) lk (λ c. refl) (λ m. refl) (Accepted n) (ap Accepted (en ∙ ap (refcountOf a e) stored-are))
 
       pub permitted : (from : ℕ) (out out' : List ℕ) (n : ℕ) → Filled 3 (map (λ q. permissionGroup (permissionOf q)) stored) from out out' n
           → ReadsPage 3 permissionGroups from calls (Permissions k from (length out)) words nx links gens t out out' (Accepted n)
-      unfolding compartmentOf reckon answerIn permissionGroups
-      permitted from out out' n f = reads-page (Permissions k from (length out)) lk (λ c. refl) 3 permissionGroups from out out' n (rw stored-are at f) refl
+      unfolding compartmentOf reckon allowed answerIn permissionGroups
+      permitted from out out' n f = reads-page (Permissions k from (length out)) lk (λ c. refl) (λ m. refl) 3 permissionGroups from out out' n (rw stored-are at f) refl
 
       pub streamed : (ss : List Segment) → ss ≡ compartment (after calls) k .segments → (from : ℕ) (out out' : List ℕ) (n : ℕ)
           → Filled 5 (map mappingGroup (stream stored ss)) from out out' n
           → ReadsPage 5 streamGroups from calls (Remap k from (length out)) words nx links gens t out out' (Accepted n)
-      unfolding compartmentOf reckon answerIn streamGroups streamOf
-      streamed ss es from out out' n f = reads-page (Remap k from (length out)) lk (λ c. refl) 5 streamGroups from out out' n (rw (stored-are, es) at f) refl
+      unfolding compartmentOf reckon allowed answerIn streamGroups streamOf
+      streamed ss es from out out' n f = reads-page (Remap k from (length out)) lk (λ c. refl) (λ m. refl) 5 streamGroups from out out' n (rw (stored-are, es) at f) refl
 
       pub regions-listed : (from : ℕ) (out out' : List ℕ) (n : ℕ) → Filled 8 (map regionGroup stored) from out out' n → ReadsList 8 regionGroups calls k from out out' (Accepted n)
       unfolding regionGroups

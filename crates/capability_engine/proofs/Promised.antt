@@ -7,7 +7,7 @@ use contract.Lifetimes.{Lfts}
 use denote.Triple.Clauses.{AtExit}
 use borrow.Fn.Kinds.{PK, RK, Out, Dens, resT, endedOf}
 use Rattle.definitions.specs.declared.answer.Answer.{Answer}
-use Rattle.definitions.specs.declared.call.Call.the-variants.{Add, Remove, Refcount, Overlaps, Map, Unmap, UnmapGpa, Permissions, Remap}
+use Rattle.definitions.specs.declared.call.Call.the-variants.{Add, Remove, Refcount, Overlaps, Map, Unmap, UnmapGpa, Permissions, Remap, Allow}
 use Rattle.capability_engine.specs.declared.compartments.Tables.{Tables}
 use Rattle.capability_engine.specs.CompartmentGrown.{Creates}
 use Rattle.capability_engine.specs.WholeStream.{Memory, Changes, Asks, Page, Copies, Begins, Steps}
@@ -23,6 +23,8 @@ use Rattle.capability_engine.proofs.compartments.Tables.unmap_range.Rea
 use Rattle.capability_engine.proofs.compartments.Tables.unmap_range.Kinds as unmap-range-kinds
 use Rattle.capability_engine.proofs.compartments.Tables.unmap_gpa_range.Reads as unmap-gpa-range
 use Rattle.capability_engine.proofs.compartments.Tables.unmap_gpa_range.Kinds as unmap-gpa-range-kinds
+use Rattle.capability_engine.proofs.compartments.Tables.allow.Reads as allow
+use Rattle.capability_engine.proofs.compartments.Tables.allow.Kinds as allow-kinds
 use Rattle.capability_engine.proofs.compartments.Tables.get_refcount.Reads as get-refcount
 use Rattle.capability_engine.proofs.compartments.Tables.get_refcount.Kinds as get-refcount-kinds
 use Rattle.capability_engine.proofs.compartments.Tables.overlaps.Reads as overlaps
@@ -76,6 +78,11 @@ unmap-gpa-range-changes : Gives 4 unmap-gpa-range-kinds.ps unmap-gpa-range-kinds
     let b = a .1 .1 .1 .1 in
     Changes (UnmapGpa (a .1 .0) (a .1 .1 .0) (a .1 .1 .1 .0)) (memory (b .0 .now) (b .1 .0 .now) (b .1 .1 .0 .now) (b .1 .1 .1 .0 .now) (a .0)) (memory (b .0 .now) (b .1 .0 .now) (b .1 .1 .0 .now) (b .1 .1 .1 .0 .now) (z .tables)) (z .answer))
 unmap-gpa-range-changes κs a z e p = p
+
+allow-changes : Gives 4 allow-kinds.ps allow-kinds.r allow.Learnt (λ κs a z e.
+    let b = a .1 .1 .1 in
+    Changes (Allow (a .1 .0) (a .1 .1 .0)) (memory (b .0 .now) (b .1 .0 .now) (b .1 .1 .0 .now) (b .1 .1 .1 .0 .now) (a .0)) (memory (b .0 .now) (b .1 .0 .now) (b .1 .1 .0 .now) (b .1 .1 .1 .0 .now) (z .tables)) (z .answer))
+allow-changes κs a z e p = p
 
 get-refcount-asks : Gives 4 get-refcount-kinds.ps get-refcount-kinds.r get-refcount.Learnt (λ κs a z e.
     let b = a .1 .1 .1 .1 in

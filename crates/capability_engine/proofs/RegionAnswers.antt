@@ -142,24 +142,24 @@ add-fold a e k (r ∷ rs) ask =
       fresh = ih .fresh ∙ or-assoc (ask .fresh) _ _;
     }
 
-room-test : (room n : ℕ) (b c : Bool) → room ≤ 1024 → (0 <? ((room + 1 - n) - bit b) - bit c) ≡ (1024 - room + (bit b + bit c + n) ≤? 1024)
-room-test room n b c l =
+room-test : (m room n : ℕ) (b c : Bool) → (0 <? ((room + 1 - n) - bit b) - bit c) ≡ (m + (bit b + bit c + n) ≤? m + room)
+room-test m room n b c =
     elim (decLt 0 (((room + 1 - n) - bit b) - bit c)) [
-      | yes p ↦ lt-ltb 0 (((room + 1 - n) - bit b) - bit c) p ∙ sym (le-leb (1024 - room + (bit b + bit c + n)) 1024 (omega arith))
-      | no p ↦ le-ltb 0 (((room + 1 - n) - bit b) - bit c) (omega arith) ∙ sym (lt-leb (1024 - room + (bit b + bit c + n)) 1024 (omega arith))
+      | yes p ↦ lt-ltb 0 (((room + 1 - n) - bit b) - bit c) p ∙ sym (le-leb (m + (bit b + bit c + n)) (m + room) (omega arith))
+      | no p ↦ le-ltb 0 (((room + 1 - n) - bit b) - bit c) (omega arith) ∙ sym (lt-leb (m + (bit b + bit c + n)) (m + room) (omega arith))
     ]
 
-pub add-answer : (a e : HostAddr) (k room : ℕ) (rs : List Region) (w : AddAsk) (left1 left2 left3 num : ℕ) (ch1 ch2 : Bool) (fifth fourth r : Answer) → room ≤ 1024
+pub add-answer : (a e : HostAddr) (k room : ℕ) (rs : List Region) (w : AddAsk) (left1 left2 left3 num : ℕ) (ch1 ch2 : Bool) (fifth fourth r : Answer)
     → w ≡ foldFrom (addStep a e k) (addBegin room a) rs
     → left1 ≡ w .left - bit (w .from .0 <? e .0) → left2 ≡ left1 - bit (w .«cuts_start») → left3 ≡ left2 - bit (w .«cuts_end»)
     → ch1 ≡ (w .gap || (w .from .0 <? e .0)) → ch2 ≡ (ch1 || w .fresh) → num ≡ bit ch2
     → fifth ≡ (if 0 <? left3 then Accepted num else Refused OutOfMemory) → fourth ≡ (if w .raisable then fifth else Refused CountFull)
-    → r ≡ ranged a e k fourth → r ≡ addOn (1024 - room) rs a e k
+    → r ≡ ranged a e k fourth → r ≡ addOn (length rs + room) rs a e k
 unfolding addOn ask newRecordsOn addChangeOn
-add-answer a e k room rs w left1 left2 left3 num ch1 ch2 fifth fourth r l ew e1 e2 e3 c1 c2 en ef eg er =
+add-answer a e k room rs w left1 left2 left3 num ch1 ch2 fifth fourth r ew e1 e2 e3 c1 c2 en ef eg er =
     let f : AddFold a e k (addBegin room a) rs w = rw ew (add-fold a e k rs (addBegin room a)) in
-    let t : (0 <? left3) ≡ (1024 - room + newRecordsOn a e rs ≤? 1024) =
-    rw (e3, e2, e1, f .left, f .cutsStart, f .cutsEnd) (room-test room (length (gaps a e rs)) (any (splits a) rs) (any (splits e) rs) l) in
+    let t : (0 <? left3) ≡ (length rs + newRecordsOn a e rs ≤? length rs + room) =
+    rw (e3, e2, e1, f .left, f .cutsStart, f .cutsEnd) (room-test (length rs) room (length (gaps a e rs)) (any (splits a) rs) (any (splits e) rs)) in
     let m : num ≡ addChangeOn a e k rs = rw (en, c2, c1, f .gap, f .fresh) in
     er ∙ ap (ranged a e k) (rw (eg, ef, f .raisable, t, m))
 
@@ -286,22 +286,22 @@ count-few p (r ∷ rs) = go (p r) (count-few p rs)
     go true l = omega arith
     go false l = omega arith
 
-first-test : (room : ℕ) (b : Bool) → room ≤ 1024 → (not b || (0 <? room)) ≡ (1024 - room + bit b ≤? 1024)
-first-test room false l = sym (le-leb (1024 - room + 0) 1024 (omega arith))
-first-test room true l =
+first-test : (m room : ℕ) (b : Bool) → (not b || (0 <? room)) ≡ (m + bit b ≤? m + room)
+first-test m room false = sym (le-leb (m + 0) (m + room) (omega arith))
+first-test m room true =
     elim (decLt 0 room) [
-      | yes p ↦ lt-ltb 0 room p ∙ sym (le-leb (1024 - room + 1) 1024 (omega arith))
-      | no p ↦ le-ltb 0 room (omega arith) ∙ sym (lt-leb (1024 - room + 1) 1024 (omega arith))
+      | yes p ↦ lt-ltb 0 room p ∙ sym (le-leb (m + 1) (m + room) (omega arith))
+      | no p ↦ le-ltb 0 room (omega arith) ∙ sym (lt-leb (m + 1) (m + room) (omega arith))
     ]
 
-second-test : (room n : ℕ) (b : Bool) → n + room ≤ 1024 → ((1025 - room) - n ≤? 1024 - bit b) ≡ (1024 - room + bit b - n + 1 ≤? 1024)
-second-test room n b l = go (bit b) (bit-le b)
+second-test : (m room n : ℕ) (b : Bool) → n ≤ m → m + room ≤ 1024 → ((1025 - room) - n ≤? 1024 - bit b) ≡ (m + bit b - n + 1 ≤? m + room)
+second-test m room n b l f = go (bit b) (bit-le b)
   where
-    go : (c : ℕ) → c ≤ 1 → ((1025 - room) - n ≤? 1024 - c) ≡ (1024 - room + c - n + 1 ≤? 1024)
-    go c m =
+    go : (c : ℕ) → c ≤ 1 → ((1025 - room) - n ≤? 1024 - c) ≡ (m + c - n + 1 ≤? m + room)
+    go c q =
         elim (decLt (1024 - c) ((1025 - room) - n)) [
-          | yes p ↦ lt-leb ((1025 - room) - n) (1024 - c) p ∙ sym (lt-leb (1024 - room + c - n + 1) 1024 (omega arith))
-          | no p ↦ le-leb ((1025 - room) - n) (1024 - c) (omega arith) ∙ sym (le-leb (1024 - room + c - n + 1) 1024 (omega arith))
+          | yes p ↦ lt-leb ((1025 - room) - n) (1024 - c) p ∙ sym (lt-leb (m + c - n + 1) (m + room) (omega arith))
+          | no p ↦ le-leb ((1025 - room) - n) (1024 - c) (omega arith) ∙ sym (le-leb (m + c - n + 1) (m + room) (omega arith))
         ]
 
 pub remove-answer : (a e : HostAddr) (k room : ℕ) (rs : List Region) (w : RemoveAsk) (lim num : ℕ) (first second fit : Bool) (eighth fifth seventh sixth r : Answer)
@@ -309,15 +309,15 @@ pub remove-answer : (a e : HostAddr) (k room : ℕ) (rs : List Region) (w : Remo
     → first ≡ (not (w .«cuts_start») || (0 <? room)) → lim ≡ 1024 - bit (w .«cuts_start») → second ≡ (not (w .«cuts_end») || (w .lack ≤? lim)) → fit ≡ (first && second)
     → num ≡ bit (w .gone) → eighth ≡ (if w .lowerable then Accepted num else Refused CountEmpty) → fifth ≡ (if fit then eighth else Refused OutOfMemory)
     → seventh ≡ (if a .0 <? w .last .0 then fifth else Refused EndedBefore) → sixth ≡ (if w .begun then seventh else Refused InvalidRegion)
-    → r ≡ ranged a e k sixth → r ≡ removeOn (1024 - room) rs a e k
+    → r ≡ ranged a e k sixth → r ≡ removeOn (length rs + room) rs a e k
 unfolding removeOn ask cutsFit removeChangeOn freed
 remove-answer a e k room rs w lim num first second fit eighth fifth seventh sixth r o few ew e1 el e2 et en e8 e5 e7 e6 er =
     let f : RemoveFold a e k (removeBegin room) rs w = rw ew (remove-fold a e k rs (removeBegin room)) in
     let fr : freed a e rs ≡ count (freesOne a e) rs = frees-total a e rs o in
-    let t1 : first ≡ (1024 - room + bit (any (splits a) rs) ≤? 1024) = rw (e1, f .cutsStart) (first-test room (any (splits a) rs) (omega arith)) in
-    let t2 : (w .lack ≤? lim) ≡ (1024 - room + bit (any (splits a) rs) - freed a e rs + 1 ≤? 1024) =
-    rw (el, f .lack, f .cutsStart, fr) (second-test room (count (freesOne a e) rs) (any (splits a) rs) (omega (arith, count-few (freesOne a e) rs))) in
-    let t3 : second ≡ (not (any (splits e) rs) || (1024 - room + bit (any (splits a) rs) - freed a e rs + 1 ≤? 1024)) = rw (e2, f .cutsEnd, t2) in
+    let t1 : first ≡ (length rs + bit (any (splits a) rs) ≤? length rs + room) = rw (e1, f .cutsStart) (first-test (length rs) room (any (splits a) rs)) in
+    let t2 : (w .lack ≤? lim) ≡ (length rs + bit (any (splits a) rs) - freed a e rs + 1 ≤? length rs + room) =
+    rw (el, f .lack, f .cutsStart, fr) (second-test (length rs) room (count (freesOne a e) rs) (any (splits a) rs) (count-few (freesOne a e) rs) few) in
+    let t3 : second ≡ (not (any (splits e) rs) || (length rs + bit (any (splits a) rs) - freed a e rs + 1 ≤? length rs + room)) = rw (e2, f .cutsEnd, t2) in
     er ∙ ap (ranged a e k) (rw (e6, e7, e5, e8, et, t1, t3, en, f .starts, f .last, f .lowerable, f .gone))
 
 -- ---- the most holders
@@ -347,6 +347,9 @@ unfolding mostOf
 most-not a e n r b eb h = let d : meets a e r ≡ false = sym eb ∙ h in rw d
 
 -- ---- the functions that pick an answer
+
+pub pick-yes : (b : Bool) (why : Refusal) (x : Answer) → b ≡ true → x ≡ (if b then x else Refused why)
+pick-yes b why x d = rw d
 
 pub pick-no : (b : Bool) (why : Refusal) (x : Answer) → b ≡ false → Refused why ≡ (if b then x else Refused why)
 pick-no b why x d = rw d

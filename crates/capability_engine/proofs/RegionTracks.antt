@@ -6,7 +6,7 @@ use mathlib.Core.List.{List, [], _∷_, _++_, map, append-nil}
 use native.Mathlib.Omega.{arith}
 use lib.ListN.{getD, set, length, length-set, length-map}
 use lib.Seq.{getD-set-same, getD-set-other}
-use borrow.Author.Tests.{leb-true, eqb-true, ne-eqb, le-leb}
+use borrow.Author.Tests.{leb-true, eqb-true, ne-eqb, le-leb, lt-leb}
 use Rattle.free_list.specs.Stack.{used, capacityOf}
 use Rattle.free_list.proofs.Laws.{in-use-rest}
 use Rattle.gen_arena.specs.Arena.{ArenaCall, listCall, after}
@@ -16,12 +16,12 @@ use Rattle.gen_arena.proofs.Laws.{slots-after}
 use Rattle.definitions.specs.Tests.{_<?_, _≤?_, _=?_, if_then_else_, bit, any, count}
 use Rattle.definitions.specs.Values.{nothing, held, raise, lower}
 use Rattle.definitions.specs.Regions.{region, has, within, splits, cut, freed, regions}
-use Rattle.definitions.specs.Questions.{accepted, ranged, cutsFit, canLower, begun, lastEnd}
+use Rattle.definitions.specs.Questions.{ask, accepted, ranged, cutsFit, canLower, begun, lastEnd}
 use Rattle.definitions.specs.declared.addr.HostAddr.{HostAddr}
 use Rattle.definitions.specs.declared.region.Values.{Values}
 use Rattle.definitions.specs.declared.region.Region.{Region}
 use Rattle.definitions.specs.declared.answer.Refusal.{Refusal}
-use Rattle.definitions.specs.declared.answer.Refusal.the-variants.{InvalidMemOps, InvalidRange, CountFull, OutOfMemory, InvalidRegion, EndedBefore, CountEmpty}
+use Rattle.definitions.specs.declared.answer.Refusal.the-variants.{InvalidMemOps, InvalidRange, CountFull, OutOfMemory, InvalidRegion, EndedBefore, CountEmpty, PoolExceeded, StillInUse}
 use Rattle.definitions.specs.declared.answer.Answer.{Answer}
 use Rattle.definitions.specs.declared.answer.Answer.the-variants.{Accepted, Refused}
 use Rattle.definitions.proofs.Bools.{both, in-high}
@@ -38,7 +38,8 @@ use Rattle.capability_engine.specs.PoolChain.{Seg, slots, records, Liste
 use Rattle.capability_engine.specs.PoolOwn.{Heap, heap, IsHeap, freeOf, Ready, Room, mineOf, recordsOf, Pass, Place}
 use Rattle.capability_engine.specs.RegionPasses.{lowered, changedOne, Small, AllSmall, CanAddBetween, CanRemoveBetween}
 use Rattle.capability_engine.specs.declared.region.Skipped.{Skipped}
-use Rattle.capability_engine.specs.RegionAsks.{Tracked, Untouched, Changes, Askable, Countable}
+use Rattle.capability_engine.specs.declared.region.RegionTracker.{RegionTracker}
+use Rattle.capability_engine.specs.RegionAsks.{Tracked, Allotted, AllowsOne, Counts, Untouched, Changes, Askable, Countable}
 use Rattle.capability_engine.proofs.PoolLinks.{slots-are, seg-frame}
 use Rattle.capability_engine.proofs.PoolOwns.{seg-low, bit-le}
 use Rattle.capability_engine.proofs.PoolHeaps.{free-is}
@@ -216,12 +217,12 @@ lowered-splits k a e y (r ∷ ts) = rw lowered-cons (go (held (changedOne (lower
     go false true d ih = omega (arith, bit-le (any (splits y) (lowered k a e ts)))
     go false false d ih = ih
 
-cuts-room : (n : ℕ) (a e : HostAddr) (k : ℕ) (rs : List Region) → a .0 < e .0 → cutsFit n a e rs ≡ true
-    → (n + length (cut a rs) ≤ 1024 + length rs) × (n + length (cut e (lowered k a e (cut a rs))) ≤ 1024 + length rs)
+cuts-room : (n m : ℕ) (a e : HostAddr) (k : ℕ) (rs : List Region) → a .0 < e .0 → cutsFit n m a e rs ≡ true
+    → (n + length (cut a rs) ≤ m + length rs) × (n + length (cut e (lowered k a e (cut a rs))) ≤ m + length rs)
 unfolding cutsFit freed frees
-cuts-room n a e k rs l h =
-    let b = both (n + bit (any (splits a) rs) ≤? 1024) _ h in
-    let p = leb-true (n + bit (any (splits a) rs)) 1024 (b .0) in
+cuts-room n m a e k rs l h =
+    let b = both (n + bit (any (splits a) rs) ≤? m) _ h in
+    let p = leb-true (n + bit (any (splits a) rs)) m (b .0) in
     let c1 = length-cut a rs in
     let c2 = length-cut e (lowered k a e (cut a rs)) in
     let c3 = lowered-length k a e (cut a rs) in
@@ -229,14 +230,14 @@ cuts-room n a e k rs l h =
     let c5 = ap bit (splits-cut a e rs l) in
     (omega arith, go (any (splits e) rs) refl (b .1))
   where
-    go : (t : Bool) → any (splits e) rs ≡ t → (not (any (splits e) rs) || (n + bit (any (splits a) rs) - freed a e rs + 1 ≤? 1024)) ≡ true
-        → n + length (cut e (lowered k a e (cut a rs))) ≤ 1024 + length rs
-    go true d m =
-        let b = both (n + bit (any (splits a) rs) ≤? 1024) _ h in
-        omega (arith, leb-true (n + bit (any (splits a) rs)) 1024 (b .0), ap bit d, length-cut a rs, length-cut e (lowered k a e (cut a rs)), lowered-length k a e (cut a rs), lowered-splits k a e e (cut a rs), ap bit (splits-cut a e rs l), leb-true (n + bit (any (splits a) rs) - freed a e rs + 1) 1024 (simp d at m))
-    go false d m =
-        let b = both (n + bit (any (splits a) rs) ≤? 1024) _ h in
-        omega (arith, leb-true (n + bit (any (splits a) rs)) 1024 (b .0), ap bit d, length-cut a rs, length-cut e (lowered k a e (cut a rs)), lowered-length k a e (cut a rs), lowered-splits k a e e (cut a rs), ap bit (splits-cut a e rs l))
+    go : (t : Bool) → any (splits e) rs ≡ t → (not (any (splits e) rs) || (n + bit (any (splits a) rs) - freed a e rs + 1 ≤? m)) ≡ true
+        → n + length (cut e (lowered k a e (cut a rs))) ≤ m + length rs
+    go true d x =
+        let b = both (n + bit (any (splits a) rs) ≤? m) _ h in
+        omega (arith, leb-true (n + bit (any (splits a) rs)) m (b .0), ap bit d, length-cut a rs, length-cut e (lowered k a e (cut a rs)), lowered-length k a e (cut a rs), lowered-splits k a e e (cut a rs), ap bit (splits-cut a e rs l), leb-true (n + bit (any (splits a) rs) - freed a e rs + 1) m (simp d at x))
+    go false d x =
+        let b = both (n + bit (any (splits a) rs) ≤? m) _ h in
+        omega (arith, leb-true (n + bit (any (splits a) rs)) m (b .0), ap bit d, length-cut a rs, length-cut e (lowered k a e (cut a rs)), lowered-length k a e (cut a rs), lowered-splits k a e e (cut a rs), ap bit (splits-cut a e rs l))
 
 -- ---- the list in the ring
 
@@ -292,25 +293,25 @@ module _ (nx ws : List ℕ) (fl : Heap) (head : ℕ) (t : Tracked nx ws fl head)
   pub tracked-count : Countable nx ws head
   tracked-count = record { listed = tracked-walk; ordered = runs .ordered }
 
-  pub tracked-askable : (room : ℕ) → room ≡ length (freeOf fl) → Askable nx ws head room
+  pub tracked-askable : (room : ℕ) → room ≤ length (freeOf fl) → Askable nx ws head room
   tracked-askable room er = record { list = tracked-count; few = omega (arith, few-in) }
 
-  module _ (a e : HostAddr) (k : ℕ) (room : ℕ) (er : room ≡ length (freeOf fl)) (le : e .0 ≤ 2 ^ 64) (ne : a .0 ≡ e .0 → ⊥) (r : Answer) (v : ℕ) (ev : r ≡ Accepted v) where
+  module _ (a e : HostAddr) (k : ℕ) (room : ℕ) (er : room ≤ length (freeOf fl)) (le : e .0 ≤ 2 ^ 64) (ne : a .0 ≡ e .0 → ⊥) (r : Answer) (v : ℕ) (ev : r ≡ Accepted v) where
     yes-of : (x : Answer) → r ≡ x → accepted x ≡ true
     yes-of x q = ap accepted (sym q ∙ ev)
 
-    module _ (ea : r ≡ addOn (1024 - room) (storedAt nx ws head) a e k) where
-      passed-add : (a .0 < e .0) × (1024 - room + newRecordsOn a e (storedAt nx ws head) ≤ 1024)
+    module _ (ea : r ≡ addOn (length (storedAt nx ws head) + room) (storedAt nx ws head) a e k) where
+      passed-add : (a .0 < e .0) × (length (storedAt nx ws head) + newRecordsOn a e (storedAt nx ws head) ≤ length (storedAt nx ws head) + room)
       unfolding addOn ranged
       passed-add =
           let p = passed ((k <? 32, InvalidMemOps) ∷ (a .0 ≤? e .0, InvalidRange) ∷ []) _ (yes-of _ ea) in
           let l : a .0 ≤ e .0 = leb-true (a .0) (e .0) (p .0 .1 .0) in
-          let q = passed ((canRaiseOn a e k (storedAt nx ws head), CountFull) ∷ (1024 - room + newRecordsOn a e (storedAt nx ws head) ≤? 1024, OutOfMemory) ∷ []) _ (rw (ne-eqb (a .0) (e .0) ne) at (p .1)) in
-          (omega arith, leb-true (1024 - room + newRecordsOn a e (storedAt nx ws head)) 1024 (q .0 .1 .0))
+          let q = passed ((canRaiseOn a e k (storedAt nx ws head), CountFull) ∷ (length (storedAt nx ws head) + newRecordsOn a e (storedAt nx ws head) ≤? length (storedAt nx ws head) + room, OutOfMemory) ∷ []) _ (rw (ne-eqb (a .0) (e .0) ne) at (p .1)) in
+          (omega arith, leb-true (length (storedAt nx ws head) + newRecordsOn a e (storedAt nx ws head)) (length (storedAt nx ws head) + room) (q .0 .1 .0))
 
       add-fits : Room (set nx 1024 head) fl (peak a e (recordsOf (set nx 1024 head) ws))
       add-fits =
-          let n : newRecordsOn a e (storedAt nx ws head) ≤ room = omega (arith, passed-add .1, few-in) in
+          let n : newRecordsOn a e (storedAt nx ws head) ≤ room = omega (arith, passed-add .1) in
           let g : length (peak a e (storedAt nx ws head)) ≡ length (storedAt nx ws head) + newRecordsOn a e (storedAt nx ws head) =
           rw (t .shown) (peak-grows a e (t .values) (passed-add .0) le (t .blank) ∙ ap (λ (m : ℕ). length (regions (t .values)) + m) (new-records-is a e (t .values) le (t .blank))) in
           rw stored-is (omega (arith, mine-long))
@@ -325,25 +326,25 @@ module _ (nx ws : List ℕ) (fl : Heap) (head : ℕ) (t : Tracked nx ws fl head)
       add-applies low q g l =
           record { order = passed-add .0; ready = t .ready; runs = rw stored-is runs; place = tracked-place a low q g l; room = add-fits; small = add-low }
 
-      pub add-changes : (nx' ws' : List ℕ) (fl' : Heap) → Pass (set nx 1024 head) ws fl nx' ws' fl' (added a e k (recordsOf (set nx 1024 head) ws))
-          → Changes (addOn (1024 - length (freeOf fl)) (storedAt nx ws head) a e k) a e nx ws fl head nx' ws' fl' (getD nx' 1024 0) (added a e k (storedAt nx ws head)) r
-      add-changes nx' ws' fl' p =
-          changes-done a e nx ws fl head (added a e k (storedAt nx ws head)) r (rw (← er) ea) le v ev ne nx' ws' fl' (rw stored-is at p)
+      pub add-changes : (m : ℕ) → length (storedAt nx ws head) + room ≡ m → (nx' ws' : List ℕ) (fl' : Heap) → Pass (set nx 1024 head) ws fl nx' ws' fl' (added a e k (recordsOf (set nx 1024 head) ws))
+          → Changes (addOn m (storedAt nx ws head) a e k) a e nx ws fl head nx' ws' fl' (getD nx' 1024 0) (added a e k (storedAt nx ws head)) r
+      add-changes m em nx' ws' fl' p =
+          changes-done a e nx ws fl head (added a e k (storedAt nx ws head)) r (ea ∙ ap (λ (n : ℕ). addOn n (storedAt nx ws head) a e k) em) le v ev ne nx' ws' fl' (rw stored-is at p)
 
-    module _ (ea : r ≡ removeOn (1024 - room) (storedAt nx ws head) a e k) where
-      passed-remove : (a .0 < e .0) × (cutsFit (1024 - room) a e (storedAt nx ws head) ≡ true)
+    module _ (ea : r ≡ removeOn (length (storedAt nx ws head) + room) (storedAt nx ws head) a e k) where
+      passed-remove : (a .0 < e .0) × (cutsFit (length (storedAt nx ws head)) (length (storedAt nx ws head) + room) a e (storedAt nx ws head) ≡ true)
       unfolding removeOn ranged
       passed-remove =
           let rs : List Region = storedAt nx ws head in
           let p = passed ((k <? 32, InvalidMemOps) ∷ (a .0 ≤? e .0, InvalidRange) ∷ []) _ (yes-of _ ea) in
           let l : a .0 ≤ e .0 = leb-true (a .0) (e .0) (p .0 .1 .0) in
-          let q = passed ((1 ≤? length (begun a rs), InvalidRegion) ∷ (a .0 <? lastEnd 0 (begun a rs), EndedBefore) ∷ (cutsFit (1024 - room) a e rs, OutOfMemory) ∷ (canLower a e k rs, CountEmpty) ∷ []) _ (rw (ne-eqb (a .0) (e .0) ne) at (p .1)) in
+          let q = passed ((1 ≤? length (begun a rs), InvalidRegion) ∷ (a .0 <? lastEnd 0 (begun a rs), EndedBefore) ∷ (cutsFit (length rs) (length rs + room) a e rs, OutOfMemory) ∷ (canLower a e k rs, CountEmpty) ∷ []) _ (rw (ne-eqb (a .0) (e .0) ne) at (p .1)) in
           (omega arith, q .0 .1 .1 .0)
 
       pub remove-applies : (low : HostAddr) (q : Skipped) → SkipsBelow nx ws head low q → low .0 ≤ a .0 → CanRemoveBetween (set nx 1024 head) ws fl a e k (q .last)
       remove-applies low q g l =
           let rs : List Region = storedAt nx ws head in
-          let f = cuts-room (1024 - room) a e k rs (passed-remove .0) (passed-remove .1) in
+          let f = cuts-room (length rs) (length rs + room) a e k rs (passed-remove .0) (passed-remove .1) in
           record {
             ready = t .ready;
             runs = rw stored-is runs;
@@ -352,12 +353,70 @@ module _ (nx ws : List ℕ) (fl : Heap) (head : ℕ) (t : Tracked nx ws fl head)
               order = passed-remove .0;
               ordered = rw stored-is (runs .ordered);
               full = rw stored-is (runs .full);
-              first = rw stored-is (omega (arith, f .0, mine-long, few-in));
-              second = rw stored-is (omega (arith, f .1, mine-long, few-in));
+              first = rw stored-is (omega (arith, f .0, mine-long));
+              second = rw stored-is (omega (arith, f .1, mine-long));
             };
           }
 
-      pub remove-changes : (nx' ws' : List ℕ) (fl' : Heap) → Pass (set nx 1024 head) ws fl nx' ws' fl' (removed a e k (recordsOf (set nx 1024 head) ws))
-          → Changes (removeOn (1024 - length (freeOf fl)) (storedAt nx ws head) a e k) a e nx ws fl head nx' ws' fl' (getD nx' 1024 0) (removed a e k (storedAt nx ws head)) r
-      remove-changes nx' ws' fl' p =
-          changes-done a e nx ws fl head (removed a e k (storedAt nx ws head)) r (rw (← er) ea) le v ev ne nx' ws' fl' (rw stored-is at p)
+      pub remove-changes : (m : ℕ) → length (storedAt nx ws head) + room ≡ m → (nx' ws' : List ℕ) (fl' : Heap) → Pass (set nx 1024 head) ws fl nx' ws' fl' (removed a e k (recordsOf (set nx 1024 head) ws))
+          → Changes (removeOn m (storedAt nx ws head) a e k) a e nx ws fl head nx' ws' fl' (getD nx' 1024 0) (removed a e k (storedAt nx ws head)) r
+      remove-changes m em nx' ws' fl' p =
+          changes-done a e nx ws fl head (removed a e k (storedAt nx ws head)) r (ea ∙ ap (λ (n : ℕ). removeOn n (storedAt nx ws head) a e k) em) le v ev ne nx' ws' fl' (rw stored-is at p)
+
+-- ---- a tracker's count and its allowance
+
+module _ (nx ws : List ℕ) (fl : Heap) (t : RegionTracker) (al : Allotted nx ws fl t) where
+  -- what it may still take
+  module _ (room : ℕ) (er : room ≡ t .allowance - t .count) where
+    pub allotted-room : room ≤ length (freeOf fl)
+    allotted-room = omega (arith, al .within, al .free)
+
+    pub allotted-is : length (storedAt nx ws (t .head)) + room ≡ t .allowance
+    allotted-is = omega (arith, al .within, al .many)
+
+    pub add-expected : (a e : HostAddr) (k : ℕ) (r : Answer) → r ≡ addOn (length (storedAt nx ws (t .head)) + room) (storedAt nx ws (t .head)) a e k
+        → r ≡ addOn (t .allowance) (storedAt nx ws (t .head)) a e k
+    add-expected a e k r q = q ∙ ap (λ (n : ℕ). addOn n (storedAt nx ws (t .head)) a e k) allotted-is
+
+    pub remove-expected : (a e : HostAddr) (k : ℕ) (r : Answer) → r ≡ removeOn (length (storedAt nx ws (t .head)) + room) (storedAt nx ws (t .head)) a e k
+        → r ≡ removeOn (t .allowance) (storedAt nx ws (t .head)) a e k
+    remove-expected a e k r q = q ∙ ap (λ (n : ℕ). removeOn n (storedAt nx ws (t .head)) a e k) allotted-is
+
+  pub counts-same : Counts t nx ws t
+  counts-same = record { allowance = refl; many = al .many }
+
+  pub counts-few : (before : ℕ) → before ≡ length (freeOf fl) → t .count + before < 2 ^ 64
+  counts-few before eb = omega (arith, al .many, few-in nx ws fl (t .head) (al .tracked))
+
+  -- as many records more as slots are no longer free
+  module _ (nx' ws' : List ℕ) (fl' : Heap) (rs : List Region) (p : Pass (set nx 1024 (t .head)) ws fl nx' ws' fl' rs)
+      (before after : ℕ) (eb : before ≡ length (freeOf fl)) (ea : after ≡ length (freeOf fl')) where
+    pub counts-total : length (mineOf nx') + after ≡ t .count + before
+    counts-total = omega (arith, p .total, mine-long nx ws fl (t .head) (al .tracked), al .many)
+
+    pub counts-done : Counts t nx' ws' (record { head = getD nx' 1024 0; count = t .count + before - after; allowance = t .allowance })
+    counts-done = record { allowance = refl; many = omega (arith, counts-total, length-map (mineOf nx') (regionAt ws')) }
+
+-- ---- another allowance
+
+module _ (t : RegionTracker) (others n : ℕ) (few : others ≤ 1024) where
+  pub allow-over : 1024 - others < n → AllowsOne t others n (record { tracker = t; answer = Refused PoolExceeded })
+  unfolding ask
+  allow-over h = record { answer = sym (rw (lt-leb (others + n) 1024 (omega arith))); done = λ y. absurd (true≢false (sym y)); kept = λ _. refl }
+
+  module _ (fit : n ≤ 1024 - others) where
+    pub allow-less : n < t .count → AllowsOne t others n (record { tracker = t; answer = Refused StillInUse })
+    unfolding ask
+    allow-less h = record {
+      answer = sym (rw (le-leb (others + n) 1024 (omega arith), lt-leb (t .count) n h));
+      done = λ y. absurd (true≢false (sym y));
+      kept = λ _. refl;
+    }
+
+    pub allow-done : t .count ≤ n → AllowsOne t others n (record { tracker = record { head = t .head; count = t .count; allowance = n }; answer = Accepted 0 })
+    unfolding ask
+    allow-done h = record {
+      answer = sym (rw (le-leb (others + n) 1024 (omega arith), le-leb (t .count) n h));
+      done = λ _. refl;
+      kept = λ y. absurd (true≢false y);
+    }

@@ -11,36 +11,38 @@ use borrow.Author.Tests.{lt-ltb, le-ltb}
 use Rattle.definitions.specs.Tests.{_<?_, bit}
 use Rattle.definitions.specs.Questions.{ask}
 use Rattle.definitions.specs.Reckoning.{compartmentOf}
-use Rattle.definitions.specs.Calls.{State, compartment, used, answerIn, answer, next, after}
+use Rattle.definitions.specs.Calls.{State, compartment, allowance, others, together, answerIn, answer, next, after}
 use Rattle.definitions.specs.Script.{Line, call, malformed, lineOf, answerLine, printed, left, mappingLines, outputFrom, wholeLines}
 use Rattle.definitions.specs.declared.answer.Refusal.the-variants.{Malformed}
 use Rattle.definitions.specs.declared.answer.Answer.{Answer}
 use Rattle.definitions.specs.declared.answer.Answer.the-variants.{Refused}
 use Rattle.definitions.specs.declared.call.Call.{Call}
 use Rattle.definitions.specs.declared.call.Call.the-variants.{Mappings}
+use Rattle.definitions.specs.declared.call.Call.the-variants as spoken
 use Rattle.definitions.proofs.Reckoned.{length-after, after-snoc}
 use Rattle.lines.specs.Lines.{linesWith}
 use Rattle.lines.proofs.Written.{length-answer}
 use Rattle.capability_engine.specs.declared.region.RegionTracker.{RegionTracker}
 use Rattle.capability_engine.specs.declared.region.Changed.{Changed as RegionChanged}
+use Rattle.capability_engine.specs.declared.region.Allowed.{Allowed}
 use Rattle.capability_engine.specs.declared.remapper.Remapper.{Remapper}
 use Rattle.capability_engine.specs.declared.remapper.Changed.{Changed as SegmentChanged}
 use Rattle.capability_engine.specs.declared.compartments.Tables.{Tables}
 use Rattle.capability_engine.specs.declared.script.Progress.{Progress}
 use Rattle.capability_engine.specs.declared.script.Script.{Script}
 use Rattle.capability_engine.specs.declared.script.Heard.{Heard}
-use Rattle.capability_engine.specs.declared.script.Task.the-variants.{Tell, Regions, Segments, Print, Nothing}
+use Rattle.capability_engine.specs.declared.script.Task.the-variants.{Tell, Regions, Segments, Print, Nothing, Allow}
 use Rattle.capability_engine.specs.PoolOwn.{heap}
-use Rattle.capability_engine.specs.RegionAsks.{Tracked}
+use Rattle.capability_engine.specs.RegionAsks.{Allotted}
 use Rattle.capability_engine.specs.RemapHeld.{IsHeld, IsSound}
-use Rattle.capability_engine.specs.CompartmentGrown.{Holds, trackersOf, Grown, Sized}
-use Rattle.capability_engine.specs.CompartmentSteps.{onRegions, onSegments, noTracker, OnRegions, OnSegments}
+use Rattle.capability_engine.specs.CompartmentGrown.{Holds, allowancesOf, trackersOf, Grown, Sized}
+use Rattle.capability_engine.specs.CompartmentSteps.{onRegions, onSegments, noTracker, OnRegions, OnSegments, OnAllow}
 use Rattle.capability_engine.specs.ScriptFeed.{owed, due, comes, Feeds}
 use Rattle.capability_engine.specs.ScriptSteps.{taskPrints, taskLeaves, Hears, bytesOf, Adds, told, Prints, linesOn, Shows, started, Goes}
 use Rattle.capability_engine.proofs.PoolOwns.{bit-le}
 use Rattle.capability_engine.proofs.CompartmentLaws.{holds-long}
 use Rattle.capability_engine.proofs.CompartmentCalls.{getD-any}
-use Rattle.capability_engine.proofs.CompartmentFacts.{tracked, held, sound, whole, stored-is, table, regions-grown, segments-answer, segments-grown}
+use Rattle.capability_engine.proofs.CompartmentFacts.{allotted, held, sound, whole, stored-is, table, regions-grown, allow-grown, pool-allowed, segments-answer, segments-grown}
 use Rattle.capability_engine.proofs.ScriptPrints.{stopped, adds-none, adds-one, adds-more, adds-length, none-whole}
 
 -- what is left to do: it falls with each step
@@ -126,7 +128,7 @@ module _ (words next links gens : List ℕ) (t : Tables) (calls : List Call) (g 
   at-tracker : (d : RegionTracker) → getD (t .trackers) k d ≡ getD (t .trackers) k noTracker
   at-tracker d =
       getD-any (t .trackers) k d noTracker
-      (omega (arith, holds-long next words (t .trackers) (after calls) (g .pooled .holds), length-after calls))
+      (omega (arith, holds-long next words (t .trackers) (after calls .compartments) (g .pooled .holds), length-after calls))
 
   pub shown : (d : RegionTracker) (e : Remapper) → Shows words next (getD (t .trackers) k d) (getD (t .remappers) k e) (compartment (after calls) k)
   shown d e = rw (at-tracker d) (record {
@@ -281,8 +283,8 @@ module _ (calls : List Call) (c : Script) (input out words next links gens : Lis
       pub regions-sound : (compartmentOf x ≡ j) × (j < 8) × (onRegions x ≡ true)
       regions-sound = rw e at (i .sound)
 
-      pub regions-tracked : (d : RegionTracker) → Tracked next words (heap links gens (t .arena)) (getD (t .trackers) j d .head)
-      regions-tracked d = rw (at-tracker words next links gens t (g .later) (g .grown) j (regions-sound .1) d) (tracked words next links gens t (g .later) (g .grown) j (regions-sound .1))
+      pub regions-tracked : (d : RegionTracker) → Allotted next words (heap links gens (t .arena)) (getD (t .trackers) j d)
+      regions-tracked d = rw (at-tracker words next links gens t (g .later) (g .grown) j (regions-sound .1) d) (allotted words next links gens t (g .later) (g .grown) j (regions-sound .1))
 
       pub going-regions : (d : RegionTracker) (words′ next′ links′ gens′ : List ℕ) (u : RegionChanged) (now′ : List ℕ) (r : Progress)
           → OnRegions x (getD (t .trackers) j d) (t .arena) words next links gens words′ next′ links′ gens′ u
@@ -296,6 +298,23 @@ module _ (calls : List Call) (c : Script) (input out words next links gens : Lis
           let grown = regions-grown words next links gens t (g .later) (g .grown) x words′ next′ links′ gens′ _ (u .answer) (regions-sound .2) v in
           answered words′ next′ links′ gens′ (record { arena = u .arena; trackers = set (t .trackers) j (u .tracker); remappers = t .remappers }) (g .later ++ (x ∷ [])) now′ r (u .answer) o q room
           (rw same at grown) (rw e (ap (λ (y : Answer). answerLine y ∷ []) (sym (v .answered)))) (rw e (after-snoc (g .later) x))
+
+    -- another allowance
+    module _ (j n : ℕ) (e : h .task ≡ Allow j n) where
+      pub allow-sound : j < 8
+      allow-sound = rw e at (i .sound)
+
+      pub allow-few : together (allowancesOf (t .trackers)) ≤ 1024
+      allow-few = pool-allowed words next links gens t (g .later) (g .grown)
+
+      pub going-allow : (u : Allowed) (now′ : List ℕ) (r : Progress) → OnAllow (t .trackers) j n u
+          → now′ ≡ sets now (p .at) (answerLine (u .answer)) → r ≡ told moved 25 → p .at + 25 ≤ length now
+          → Going calls c input out words next links gens (record { arena = t .arena; trackers = set (t .trackers) j (u .tracker); remappers = t .remappers }) line′ now′ r
+      unfolding taskPrints taskLeaves
+      going-allow u now′ r w o q room =
+          let v = w words next links gens (trackersOf t) (g .later) (g .grown .pooled) allow-sound refl in
+          answered words next links gens (record { arena = t .arena; trackers = set (t .trackers) j (u .tracker); remappers = t .remappers }) (g .later ++ (spoken.Allow j n ∷ [])) now′ r (u .answer) o q room
+          (allow-grown words next links gens t (g .later) (g .grown) j n _ (u .answer) v) (rw e (ap (λ (y : Answer). answerLine y ∷ []) (sym (v .answered)))) (rw e (after-snoc (g .later) (spoken.Allow j n)))
 
     -- a call on segments
     module _ (j : ℕ) (x : Call) (e : h .task ≡ Segments j x) where
@@ -317,7 +336,7 @@ module _ (calls : List Call) (c : Script) (input out words next links gens : Lis
           let same : compartmentOf x ≡ j = segments-sound .0 in
           let l : compartmentOf x < 8 = omega (arith, segments-sound) in
           let here : OnSegments x (getD (t .remappers) (compartmentOf x) d) u = rw same w in
-          let v = here (used (after (g .later))) (compartment (after (g .later)) (compartmentOf x)) (sound words next links gens t (g .later) (g .grown) (compartmentOf x) l d) (segments-sound .2) in
+          let v = here (others (after (g .later) .allowances) (compartmentOf x)) (allowance (after (g .later)) (compartmentOf x)) (compartment (after (g .later)) (compartmentOf x)) (sound words next links gens t (g .later) (g .grown) (compartmentOf x) l d) (segments-sound .2) in
           let grown = segments-grown words next links gens t (g .later) (g .grown) x l (segments-sound .2) d u v in
           answered words next links gens (record { arena = t .arena; trackers = t .trackers; remappers = set (t .remappers) j (u .remapper) }) (g .later ++ (x ∷ [])) now′ r (u .answer) o q room
           (rw same at grown) (rw e (ap (λ (y : Answer). answerLine y ∷ []) (sym (segments-answer words next links gens t (g .later) (g .grown) x l (segments-sound .2) d u v)))) (rw e (after-snoc (g .later) x))

@@ -14,12 +14,12 @@ use Rattle.definitions.proofs.Reckoned.{next-refused, next-read}
 use Rattle.definitions.specs.Tests.{_=?_, if_then_else_}
 use Rattle.definitions.specs.Reckoning.{compartmentOf, reckon}
 use Rattle.definitions.specs.Questions.{ask, accepted}
-use Rattle.definitions.specs.Calls.{State, answer}
+use Rattle.definitions.specs.Calls.{State, answer, allowed}
 use Rattle.definitions.specs.Script.{Read, Line, call, malformed, numbers, unread, callOf, columnsOf, lineOf, arity, printed, left, mappingLines}
 use Rattle.definitions.specs.declared.answer.Refusal.the-variants.{NoCompartment}
 use Rattle.definitions.specs.declared.answer.Answer.the-variants.{Refused}
 use Rattle.definitions.specs.declared.call.Call.{Call}
-use Rattle.definitions.specs.declared.call.Call.the-variants.{Add, Remove, Refcount, Overlaps, Map, Unmap, UnmapGpa, Permissions, Remap, Mappings}
+use Rattle.definitions.specs.declared.call.Call.the-variants.{Add, Remove, Refcount, Overlaps, Map, Unmap, UnmapGpa, Permissions, Remap, Mappings, Allow}
 use Rattle.lines.specs.Lines.{lineFrom}
 use Rattle.lines.specs.declared.Line.{Line as Said}
 use Rattle.lines.specs.declared.Line.the-variants as said
@@ -49,6 +49,7 @@ task-other (Map k p g n t) h = absurd (miss (0 ∷ 1 ∷ 2 ∷ 3 ∷ 7 ∷ 8 ∷
 task-other (Unmap k p n) h = absurd (miss (0 ∷ 1 ∷ 2 ∷ 3 ∷ 7 ∷ 8 ∷ []) 5 tt h)
 task-other (UnmapGpa k g n) h = absurd (miss (0 ∷ 1 ∷ 2 ∷ 3 ∷ 7 ∷ 8 ∷ []) 6 tt h)
 task-other (Mappings k) h = absurd (miss (0 ∷ 1 ∷ 2 ∷ 3 ∷ 7 ∷ 8 ∷ []) 9 tt h)
+task-other (Allow k n) h = absurd (miss (0 ∷ 1 ∷ 2 ∷ 3 ∷ 7 ∷ 8 ∷ []) 10 tt h)
 
 -- ---- what lines say
 
@@ -64,6 +65,7 @@ Spoken (Map k h g n t) = Unit {0}
 Spoken (Unmap k h n) = Unit {0}
 Spoken (UnmapGpa k g n) = Unit {0}
 Spoken (Mappings k) = Unit {0}
+Spoken (Allow k n) = Unit {0}
 
 data AsSpoken : Line → Type 0 where
   one : {c : Call} → Spoken c → AsSpoken (call c)
@@ -77,7 +79,7 @@ call-spoken : (letter : ℕ) (r : Read) → AsSpoken (callOf letter r)
 call-spoken letter unread = none
 call-spoken letter (numbers []) = none
 call-spoken letter (numbers (k ∷ [])) = either (letter =? 80) (one tt) none
-call-spoken letter (numbers (k ∷ a ∷ [])) = none
+call-spoken letter (numbers (k ∷ a ∷ [])) = either (letter =? 83) (one tt) none
 call-spoken letter (numbers (k ∷ a ∷ b ∷ [])) =
     either (letter =? 67) (one tt) (either (letter =? 85) (one tt) (either (letter =? 71) (one tt) none))
 call-spoken letter (numbers (k ∷ a ∷ b ∷ c ∷ [])) = either (letter =? 65) (one tt) (either (letter =? 68) (one tt) none)
@@ -114,6 +116,7 @@ none-lines s (UnmapGpa k g n) h = refl
 none-lines s (Permissions k i n) h = refl
 none-lines s (Remap k i n) h = refl
 none-lines s (Mappings k) h = simp (le-ltb k 8 h)
+none-lines s (Allow k n) h = refl
 
 asks-none : (c : Call) → 8 ≤ compartmentOf c → Asks (call c) (Tell (Refused NoCompartment))
 unfolding taskPrints taskLeaves
@@ -124,14 +127,15 @@ asks-none c h = record {
 }
 
 asks-in : (c : Call) → Spoken c → compartmentOf c < 8 → Asks (call c) (taskIn c)
-unfolding taskPrints taskLeaves compartmentOf onRegions onSegments mappingLines reckon
+unfolding taskPrints taskLeaves compartmentOf onRegions onSegments mappingLines reckon allowed
 asks-in (Add k a e r) u h = record { sound = (refl, h, refl); prints = λ s. refl; leaves = λ s. refl }
 asks-in (Remove k a e r) u h = record { sound = (refl, h, refl); prints = λ s. refl; leaves = λ s. refl }
 asks-in (Refcount k a e) u h = record { sound = (refl, h, refl); prints = λ s. refl; leaves = λ s. refl }
 asks-in (Map k p g n t) u h = record { sound = (refl, h, refl); prints = λ s. refl; leaves = λ s. refl }
 asks-in (Unmap k p n) u h = record { sound = (refl, h, refl); prints = λ s. refl; leaves = λ s. refl }
 asks-in (UnmapGpa k g n) u h = record { sound = (refl, h, refl); prints = λ s. refl; leaves = λ s. refl }
-asks-in (Mappings k) u h = record { sound = h; prints = λ s. refl; leaves = λ s. next-read s (Mappings k) refl }
+asks-in (Mappings k) u h = record { sound = h; prints = λ s. refl; leaves = λ s. next-read s (Mappings k) refl refl }
+asks-in (Allow k n) u h = record { sound = h; prints = λ s. refl; leaves = λ s. refl }
 asks-in (Overlaps k g n) u h = absurd u
 asks-in (Permissions k i n) u h = absurd u
 asks-in (Remap k i n) u h = absurd u

@@ -1,4 +1,5 @@
--- Demand 3: whatever is called, the whole stream that is read of a compartment is that of its reckoning.
+-- Demand 3: whatever is called, the whole stream that is read of a compartment is that of its reckoning. And document 02, order
+-- 4: the others' calls change nothing of it.
 use Prim.Native.Nat.{ℕ, _+_, _*_, _-_, _<_, _≤_}
 use mathlib.Core.Path.{_≡_, refl, sym, ap, ap₂, _∙_, subst}
 use mathlib.Core.Bool.{Bool}
@@ -8,6 +9,7 @@ use borrow.Author.Tests.{lt-ltb}
 use lib.ListN.{length, getD, take, drop, length-map, length-take, length-drop}
 use lib.Seq.{take-at, drop-append-seam}
 use Rattle.definitions.specs.Tests.{each}
+use Rattle.definitions.specs.Regions.{regions}
 use Rattle.definitions.specs.Stream.{stream}
 use Rattle.definitions.specs.Pages.{page, filled, mappingGroup}
 use Rattle.definitions.specs.Reckoning.{Compartment, compartmentOf, reckoning}
@@ -21,13 +23,15 @@ use Rattle.definitions.proofs.PageLaws.{wide-map, page-rest, last-page, read-le
 use Rattle.definitions.proofs.StreamLaws.{agrees}
 use Rattle.definitions.proofs.Reckoned.{reckoned}
 use Rattle.definitions.proofs.Stored.{stored}
+use Rattle.definitions.proofs.Independence.{independent, same-answer}
 use Rattle.capability_engine.specs.declared.remapper.Remapper.{Remapper}
 use Rattle.capability_engine.specs.declared.stream.RemapCursor.{RemapCursor}
+use Rattle.capability_engine.specs.RemapHeld.{Holds}
 use Rattle.capability_engine.specs.StreamCursor.{Table, Ready, remaining}
 use Rattle.capability_engine.specs.CompartmentGrown.{pageLeft}
 use Rattle.capability_engine.specs.CompartmentSteps.{noTracker}
 use Rattle.capability_engine.specs.WholeStream as said
-use Rattle.capability_engine.specs.WholeStream.{Memory, GrownBy, Ran, Page, Paged, ByPages, Copies, Begins, Stepped, ByCursor, StreamIs, Statement}
+use Rattle.capability_engine.specs.WholeStream.{Memory, GrownBy, Ran, Page, Paged, ByPages, Copies, Begins, Stepped, ByCursor, StreamIs, callsOf, Statement, SameFor, Independent}
 use Rattle.capability_engine.proofs.StreamLists.{map-append, each-append}
 use Rattle.capability_engine.proofs.StreamFills.{five, map-drop}
 use Rattle.capability_engine.proofs.CompartmentFacts.{held, whole, stored-is, table}
@@ -44,9 +48,6 @@ unfolding fed after
 fed-snoc calls c = fedFrom-snoc calls start c
 
 -- the calls heard grew what they leave, and each was accepted exactly where the definitions accept it
-abbrev callsOf : List (Call × Bool) → List Call
-callsOf heard = map (λ h. h .0) heard
-
 record Told (m : Memory) (heard : List (Call × Bool)) : Type 0 where
   grown : GrownBy m (callsOf heard)
   same : heard ≡ fed (callsOf heard)
@@ -205,3 +206,33 @@ pub «whole_stream» : Statement
           (stream-is m (callsOf heard) (t .grown) k l);
       grown = t .grown;
     }
+
+-- two runs that agree on what is compartment k's leave it one compartment, so whatever is read of it is the same
+pub «independent_streams» : Independent
+«independent_streams» k l m n xs ys r q e = record {
+  changes = λ call m' n' a b o s p p'.
+      p (callsOf xs) gm .answered ∙ same-answer k (callsOf xs) (callsOf ys) e call o s ∙ sym (p' (callsOf ys) gn .answered);
+  asks = λ call a b o s p p'.
+      p (callsOf xs) gm .answered ∙ same-answer k (callsOf xs) (callsOf ys) e call o s ∙ sym (p' (callsOf ys) gn .answered);
+  regions =
+      stored-is (m .words) (m .next) (m .links) (m .gens) (m .tables) (callsOf xs) gm k l
+      ∙ ap (λ (c : Compartment). regions (c .values)) left
+      ∙ sym (stored-is (n .words) (n .next) (n .links) (n .gens) (n .tables) (callsOf ys) gn k l);
+  segments = λ other. (
+    compartment (after (callsOf ys)) k .segments,
+    subst (λ (c : Compartment). Holds (getD (m .tables .remappers) k other) (c .segments)) left
+        (held (m .words) (m .next) (m .links) (m .gens) (m .tables) (callsOf xs) gm k l other),
+    held (n .words) (n .next) (n .links) (n .gens) (n .tables) (callsOf ys) gn k l other,
+  );
+  byPages = λ got got' p p'. by-pages m (callsOf xs) gm k l p ∙ ap (λ c. flat (streamGroups c)) left ∙ sym (by-pages n (callsOf ys) gn k l p');
+  byCursor = λ found found' p p'. by-cursor m (callsOf xs) gm k l p ∙ ap streamOf left ∙ sym (by-cursor n (callsOf ys) gn k l p');
+}
+  where
+    gm : GrownBy m (callsOf xs)
+    gm = told r .grown
+
+    gn : GrownBy n (callsOf ys)
+    gn = told q .grown
+
+    left : compartment (after (callsOf xs)) k ≡ compartment (after (callsOf ys)) k
+    left = independent k (callsOf xs) (callsOf ys) e .left

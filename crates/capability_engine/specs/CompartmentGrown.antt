@@ -2,7 +2,7 @@
 use Prim.Native.Nat.{ℕ, _+_, _<_}
 use mathlib.Core.Path.{_≡_}
 use mathlib.Core.Bool.{true, false}
-use mathlib.Core.List.{List, [], _∷_, _++_}
+use mathlib.Core.List.{List, [], _∷_, _++_, map}
 use lib.ListN.{length, replicate}
 use Rattle.gen_arena.specs.Grown.{fresh}
 use Rattle.gen_arena.specs.declared.GenArena.{GenArena}
@@ -10,8 +10,8 @@ use Rattle.definitions.specs.Regions.{regions}
 use Rattle.definitions.specs.Reckoning.{Compartment, compartmentOf}
 use Rattle.definitions.specs.Tests.{_<?_, if_then_else_}
 use Rattle.definitions.specs.Pages.{page, filled}
-use Rattle.definitions.specs.Questions.{ask, accepted}
-use Rattle.definitions.specs.Calls.{State, start, compartment, answer, after}
+use Rattle.definitions.specs.Questions.{ask, accepted, inUse}
+use Rattle.definitions.specs.Calls.{start, compartment, answer, after}
 use Rattle.definitions.specs.declared.answer.Refusal.the-variants.{NoCompartment}
 use Rattle.definitions.specs.declared.answer.Answer.{Answer}
 use Rattle.definitions.specs.declared.answer.Answer.the-variants.{Accepted}
@@ -25,13 +25,14 @@ use Rattle.capability_engine.specs.PoolChain.{cnt, slots, Listed, stored
 use Rattle.capability_engine.specs.PoolOwn.{heap, IsHeap, freeOf}
 use Rattle.capability_engine.specs.RemapHeld as remap
 
--- the list from the tracker's head holds the regions of the compartment
+-- the list from the tracker's head holds the regions of the compartment, and the tracker counts them
 pub record Holding (nx ws : List ℕ) (t : RegionTracker) (c : Compartment) : Type 0 where
   pub listed : Listed nx (t .head) (slots nx (t .head))
   pub shown : storedAt nx ws (t .head) ≡ regions (c .values)
+  pub many : t .count ≡ inUse c
 
 -- each tracker's does
-abbrev pub Holds : List ℕ → List ℕ → List RegionTracker → State → Type 0
+abbrev pub Holds : List ℕ → List ℕ → List RegionTracker → List Compartment → Type 0
 Holds nx ws [] [] = Unit {0}
 Holds nx ws [] (c ∷ cs) = ⊥
 Holds nx ws (t ∷ ts) [] = ⊥
@@ -46,6 +47,10 @@ unfoldable pub allLong : List ℕ → List RegionTracker → ℕ
 allLong nx [] = 0
 allLong nx (t ∷ ts) = length (slots nx (t .head)) + allLong nx ts
 
+-- what each tracker is allowed
+abbrev pub allowancesOf : List RegionTracker → List ℕ
+allowancesOf ts = map (λ (t : RegionTracker). t .allowance) ts
+
 -- what of the tables is about the pool
 pub record Trackers : Type 0 where
   pub arena : GenArena
@@ -55,17 +60,18 @@ abbrev pub trackersOf : Tables → Trackers
 trackersOf t = record { arena = t .arena; list = t .trackers }
 
 -- the pool and the trackers hold what these calls left: each compartment's list is that of its regions, and each of the
--- 1,024 slots is in one list or free
+-- 1,024 slots is in one list or free; and each tracker is allowed what they left it
 pub record Pooled (words next links gens : List ℕ) (t : Trackers) (calls : List Call) : Type 0 where
   pub nextSize : length next ≡ 1025
   pub wordsSize : length words ≡ 8192
   pub arena : IsHeap (heap links gens (t .arena))
-  pub holds : Holds next words (t .list) (after calls)
+  pub holds : Holds next words (t .list) (after calls .compartments)
+  pub allowed : allowancesOf (t .list) ≡ after calls .allowances
   pub once : (x : ℕ) → x < 1024 → inLists x next (t .list) + cnt x (freeOf (heap links gens (t .arena))) ≡ 1
   pub total : allLong next (t .list) + length (freeOf (heap links gens (t .arena))) ≡ 1024
 
 -- each remapper holds the segments of its compartment
-abbrev pub Remapped : List Remapper → State → Type 0
+abbrev pub Remapped : List Remapper → List Compartment → Type 0
 Remapped [] [] = Unit {0}
 Remapped [] (c ∷ cs) = ⊥
 Remapped (m ∷ ms) [] = ⊥
@@ -74,7 +80,7 @@ Remapped (m ∷ ms) (c ∷ cs) = remap.Holds m (c .segments) × Remapped ms cs
 -- these calls grew the pool and all tables, together
 pub record Grown (words next links gens : List ℕ) (t : Tables) (calls : List Call) : Type 0 where
   pub pooled : Pooled words next links gens (trackersOf t) calls
-  pub remapped : Remapped (t .remappers) (after calls)
+  pub remapped : Remapped (t .remappers) (after calls .compartments)
 
 -- some calls did
 pub record IsGrown (words next links gens : List ℕ) (t : Tables) : Type 0 where
@@ -118,14 +124,14 @@ pub record ReadsList (width : ℕ) (groups : Compartment → List (List ℕ)) (c
 abbrev pub Sized : List ℕ → List ℕ → List ℕ → List ℕ → Type 0
 Sized words next links gens = (length words ≡ 8192) × (length next ≡ 1025) × (length links ≡ 1024) × (length gens ≡ 1024)
 
--- eight empty compartments, and all slots free
+-- eight empty compartments, each allowed 128 records, and all slots free
 abbrev pub noTrackers : Trackers
-noTrackers = record { arena = fresh; list = replicate 8 (record { head = 1024 }) }
+noTrackers = record { arena = fresh; list = replicate 8 (record { head = 1024; count = 0; allowance = 128 }) }
 
 -- what new promises
 pub record Creates (words next links gens links' gens' : List ℕ) (r : Created) : Type 0 where
   pub empty : trackersOf (r .tables) ≡ noTrackers
-  pub bare : Remapped (r .tables .remappers) start
+  pub bare : Remapped (r .tables .remappers) (start .compartments)
   pub made : r .done ≡ true → Grown words next links' gens' (r .tables) []
   pub sized : Sized words next links gens → r .done ≡ true
   pub kept : r .done ≡ false → (links' ≡ links) × (gens' ≡ gens)

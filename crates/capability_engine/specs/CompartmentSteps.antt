@@ -10,9 +10,10 @@ use Rattle.definitions.specs.Questions.{accepted}
 use Rattle.definitions.specs.Calls.{answerIn, answer, after}
 use Rattle.definitions.specs.declared.answer.Answer.{Answer}
 use Rattle.definitions.specs.declared.call.Call.{Call}
-use Rattle.definitions.specs.declared.call.Call.the-variants.{Add, Remove, Refcount, Overlaps, Map, Unmap, UnmapGpa, Permissions, Remap, Mappings}
+use Rattle.definitions.specs.declared.call.Call.the-variants.{Add, Remove, Refcount, Overlaps, Map, Unmap, UnmapGpa, Permissions, Remap, Mappings, Allow}
 use Rattle.capability_engine.specs.declared.region.RegionTracker.{RegionTracker}
 use Rattle.capability_engine.specs.declared.region.Changed.{Changed as RegionChanged}
+use Rattle.capability_engine.specs.declared.region.Allowed.{Allowed}
 use Rattle.capability_engine.specs.declared.remapper.Remapper.{Remapper}
 use Rattle.capability_engine.specs.declared.remapper.Change.{Change}
 use Rattle.capability_engine.specs.declared.remapper.Changed.{Changed as SegmentChanged}
@@ -32,6 +33,7 @@ onRegions (UnmapGpa k g n) = false
 onRegions (Permissions k i n) = false
 onRegions (Remap k i n) = false
 onRegions (Mappings k) = false
+onRegions (Allow k n) = false
 
 unfoldable pub onSegments : Call → Bool
 onSegments (Add k a e r) = false
@@ -44,6 +46,7 @@ onSegments (UnmapGpa k g n) = true
 onSegments (Permissions k i n) = false
 onSegments (Remap k i n) = false
 onSegments (Mappings k) = false
+onSegments (Allow k n) = false
 
 -- the pool and the trackers are as they were
 pub record SamePool (words next links gens : List ℕ) (t : Trackers) (words' next' links' gens' : List ℕ) (t' : Trackers) : Type 0 where
@@ -61,7 +64,7 @@ pub record PoolAnswers (calls : List Call) (call : Call) (words next links gens 
 
 -- past the eight trackers
 abbrev pub noTracker : RegionTracker
-noTracker = record { head = 1024 }
+noTracker = record { head = 1024; count = 0; allowance = 128 }
 
 -- the trackers, with compartment k's replaced
 abbrev pub withTracker : Trackers → ℕ → RegionTracker → GenArena → Trackers
@@ -74,13 +77,19 @@ OnRegions call tracker arena words next links gens words' next' links' gens' r =
     → t .arena ≡ arena → getD (t .list) (compartmentOf call) noTracker ≡ tracker
     → PoolAnswers calls call words next links gens t words' next' links' gens' (withTracker t (compartmentOf call) (r .tracker) (r .arena)) (r .answer)
 
+-- of all eight, compartment k's gets another allowance
+abbrev pub OnAllow : List RegionTracker → ℕ → ℕ → Allowed → Type 0
+OnAllow trackers k n r =
+    (words next links gens : List ℕ) (t : Trackers) (calls : List Call) → Pooled words next links gens t calls → k < 8 → t .list ≡ trackers
+    → PoolAnswers calls (Allow k n) words next links gens t words next links gens (withTracker t k (r .tracker) (t .arena)) (r .answer)
+
 -- what a call on segments does, and what its first questions come to
 abbrev pub OnSegments : Call → Remapper → SegmentChanged → Type 0
 OnSegments call remapper r =
-    (n : ℕ) (c : Compartment) → Sound remapper (c .segments) → onSegments call ≡ true
-    → Does remapper (answerIn n c call) (reckon call c .segments) r
+    (n m : ℕ) (c : Compartment) → Sound remapper (c .segments) → onSegments call ≡ true
+    → Does remapper (answerIn n m c call) (reckon call c .segments) r
 
 abbrev pub AsksSegments : Call → Remapper → Change → Type 0
 AsksSegments call remapper r =
-    (n : ℕ) (c : Compartment) → Sound remapper (c .segments) → onSegments call ≡ true
-    → Decides remapper (answerIn n c call) (reckon call c .segments) r
+    (n m : ℕ) (c : Compartment) → Sound remapper (c .segments) → onSegments call ≡ true
+    → Decides remapper (answerIn n m c call) (reckon call c .segments) r

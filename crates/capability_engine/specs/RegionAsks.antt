@@ -1,5 +1,5 @@
 -- What one walk over a list of regions finds out before an add or a remove changes anything: a step for each region.
-use Prim.Native.Nat.{ℕ, _+_, _-_, _^_, _≤_, _<_, max}
+use Prim.Native.Nat.{ℕ, _+_, _^_, _-_, _≤_, _<_, max}
 use mathlib.Core.Path.{_≡_}
 use mathlib.Core.Bool.{Bool, true, false, not, _&&_, _||_}
 use mathlib.Core.List.{List, [], _∷_}
@@ -7,16 +7,20 @@ use lib.ListN.{getD, set, length}
 use Rattle.definitions.specs.Tests.{_<?_, _≤?_, _=?_, if_then_else_, bit}
 use Rattle.definitions.specs.Rights.{READ, WRITE, EXEC, SUPER, named}
 use Rattle.definitions.specs.Regions.{meets, splits, regions}
-use Rattle.definitions.specs.Questions.{everyNamed, accepted}
+use Rattle.definitions.specs.Questions.{everyNamed, ask, accepted}
 use Rattle.definitions.specs.declared.addr.HostAddr.{HostAddr}
 use Rattle.definitions.specs.declared.region.Values.{Values}
 use Rattle.definitions.specs.declared.region.Region.{Region}
+use Rattle.definitions.specs.declared.answer.Refusal.the-variants.{PoolExceeded, StillInUse}
 use Rattle.definitions.specs.declared.answer.Answer.{Answer}
+use Rattle.definitions.specs.declared.answer.Answer.the-variants.{Accepted}
 use Rattle.definitions.proofs.Lists.{Ordered, Blank, added, removed}
 use Rattle.definitions.proofs.Stored.{Counted}
 use Rattle.definitions.proofs.Tables.{addOn, removeOn}
 use Rattle.capability_engine.specs.declared.region.AddAsk.{AddAsk}
 use Rattle.capability_engine.specs.declared.region.RemoveAsk.{RemoveAsk}
+use Rattle.capability_engine.specs.declared.region.RegionTracker.{RegionTracker}
+use Rattle.capability_engine.specs.declared.region.Allowed.{Allowed}
 use Rattle.capability_engine.specs.declared.region.Changed.{Changed}
 use Rattle.capability_engine.specs.declared.region.Skipped.{Skipped}
 use Rattle.capability_engine.specs.PoolChain.{Walkable, storedAt, SkipsBelow}
@@ -79,6 +83,24 @@ pub record Tracked (nx ws : List ℕ) (fl : Heap) (head : ℕ) : Type 0 where
   pub counted : (x : HostAddr) → Counted (values x)
   pub shown : storedAt nx ws head ≡ regions values
 
+-- the same of a tracker: its count is that of its records, its allowance covers them, and the pool has what it still allows
+pub record Allotted (nx ws : List ℕ) (fl : Heap) (t : RegionTracker) : Type 0 where
+  pub tracked : Tracked nx ws fl (t .head)
+  pub many : t .count ≡ length (storedAt nx ws (t .head))
+  pub within : t .count ≤ t .allowance
+  pub free : t .allowance ≤ t .count + length (freeOf fl)
+
+-- the tracker t' that an add or a remove makes of t: the same allowance, and the count of the records that it has now
+pub record Counts (t : RegionTracker) (nx' ws' : List ℕ) (t' : RegionTracker) : Type 0 where
+  pub allowance : t' .allowance ≡ t .allowance
+  pub many : t' .count ≡ length (storedAt nx' ws' (t' .head))
+
+-- a tracker gets another allowance, where the others' are so many together; refused, it is as it was
+pub record AllowsOne (t : RegionTracker) (others n : ℕ) (r : Allowed) : Type 0 where
+  pub answer : r .answer ≡ ask ((others + n ≤? 1024, PoolExceeded) ∷ (t .count ≤? n, StillInUse) ∷ []) (Accepted 0)
+  pub done : accepted (r .answer) ≡ true → r .tracker ≡ record { head = t .head; count = t .count; allowance = n }
+  pub kept : accepted (r .answer) ≡ false → r .tracker ≡ t
+
 -- nothing has changed
 pub record Untouched (nx ws : List ℕ) (fl : Heap) (head : ℕ) (nx' ws' : List ℕ) (fl' : Heap) (head' : ℕ) : Type 0 where
   pub next : nx' ≡ nx
@@ -99,15 +121,15 @@ pub record Changes (expected : Answer) (a e : HostAddr) (nx ws : List ℕ) (fl :
   pub empty : a .0 ≡ e .0 → Untouched nx ws fl head nx' ws' fl' head'
   pub kept : accepted r ≡ false → Untouched nx ws fl head nx' ws' fl' head'
 
-abbrev pub AddsRegion : List ℕ → List ℕ → Heap → ℕ → HostAddr → HostAddr → ℕ → List ℕ → List ℕ → List ℕ → List ℕ → Changed → Type 0
-AddsRegion nx ws fl head a e rights nx' ws' links' gens' r =
-    Changes (addOn (1024 - length (freeOf fl)) (storedAt nx ws head) a e rights) a e nx ws fl head nx' ws' (heap links' gens' (r .arena)) (r .tracker .head)
-    (added a e rights (storedAt nx ws head)) (r .answer)
+abbrev pub AddsRegion : List ℕ → List ℕ → Heap → RegionTracker → HostAddr → HostAddr → ℕ → List ℕ → List ℕ → List ℕ → List ℕ → Changed → Type 0
+AddsRegion nx ws fl t a e rights nx' ws' links' gens' r =
+    Changes (addOn (t .allowance) (storedAt nx ws (t .head)) a e rights) a e nx ws fl (t .head) nx' ws' (heap links' gens' (r .arena)) (r .tracker .head)
+    (added a e rights (storedAt nx ws (t .head))) (r .answer) × Counts t nx' ws' (r .tracker)
 
-abbrev pub RemovesRegion : List ℕ → List ℕ → Heap → ℕ → HostAddr → HostAddr → ℕ → List ℕ → List ℕ → List ℕ → List ℕ → Changed → Type 0
-RemovesRegion nx ws fl head a e rights nx' ws' links' gens' r =
-    Changes (removeOn (1024 - length (freeOf fl)) (storedAt nx ws head) a e rights) a e nx ws fl head nx' ws' (heap links' gens' (r .arena)) (r .tracker .head)
-    (removed a e rights (storedAt nx ws head)) (r .answer)
+abbrev pub RemovesRegion : List ℕ → List ℕ → Heap → RegionTracker → HostAddr → HostAddr → ℕ → List ℕ → List ℕ → List ℕ → List ℕ → Changed → Type 0
+RemovesRegion nx ws fl t a e rights nx' ws' links' gens' r =
+    Changes (removeOn (t .allowance) (storedAt nx ws (t .head)) a e rights) a e nx ws fl (t .head) nx' ws' (heap links' gens' (r .arena)) (r .tracker .head)
+    (removed a e rights (storedAt nx ws (t .head))) (r .answer) × Counts t nx' ws' (r .tracker)
 
 -- before the first region
 abbrev pub addBegin : ℕ → HostAddr → AddAsk

@@ -15,6 +15,7 @@ use Rattle.definitions.specs.declared.answer.Refusal.the-variants as refusal
 use Rattle.definitions.specs.declared.answer.Answer.the-variants.{Accepted, Refused}
 use Rattle.definitions.specs.declared.call.Call.{Call}
 use Rattle.definitions.specs.declared.call.Call.the-variants.{Add, Remove, Refcount, Overlaps, Map, Unmap, UnmapGpa, Permissions, Remap, Mappings}
+use Rattle.definitions.specs.declared.call.Call.the-variants as spoken
 use Rattle.lines.specs.Lines.{linesWith}
 use Rattle.lines.specs.declared.Line.{Line}
 use Rattle.lines.specs.declared.Line.the-variants as line
@@ -23,7 +24,7 @@ use Rattle.capability_engine.specs.declared.remapper.Remapper.{Remapper}
 use Rattle.capability_engine.specs.declared.script.Progress.{Progress}
 use Rattle.capability_engine.specs.declared.script.Heard.{Heard}
 use Rattle.capability_engine.specs.declared.script.Task.{Task}
-use Rattle.capability_engine.specs.declared.script.Task.the-variants.{Tell, Regions, Segments, Print, Nothing}
+use Rattle.capability_engine.specs.declared.script.Task.the-variants.{Tell, Regions, Segments, Print, Nothing, Allow}
 use Rattle.capability_engine.specs.PoolChain.{storedAt}
 use Rattle.capability_engine.specs.RemapHeld.{Holds}
 use Rattle.capability_engine.specs.RemapListing.{Copied}
@@ -44,6 +45,7 @@ taskIn (Refcount k a e) = Regions k (Refcount k a e)
 taskIn (Overlaps k g n) = Regions k (Overlaps k g n)
 taskIn (Permissions k i n) = Regions k (Permissions k i n)
 taskIn (Remap k i n) = Regions k (Remap k i n)
+taskIn (spoken.Allow k n) = Allow k n
 
 abbrev pub taskOf : Line → Task
 taskOf (line.Call c) = if 8 ≤? compartmentOf c then Tell (Refused NoCompartment) else taskIn c
@@ -56,6 +58,7 @@ taskPrints s (Regions i c) = answerLine (answer s c) ∷ []
 taskPrints s (Segments i c) = answerLine (answer s c) ∷ []
 taskPrints s (Print i) = printed s (call (Mappings i))
 taskPrints s Nothing = []
+taskPrints s (Allow i n) = answerLine (answer s (spoken.Allow i n)) ∷ []
 
 unfoldable pub taskLeaves : State → Task → State
 taskLeaves s (Tell a) = s
@@ -63,6 +66,7 @@ taskLeaves s (Regions i c) = next s c
 taskLeaves s (Segments i c) = next s c
 taskLeaves s (Print i) = s
 taskLeaves s Nothing = s
+taskLeaves s (Allow i n) = next s (spoken.Allow i n)
 
 -- the call is one of its kind, on a compartment that there is
 abbrev pub Sound : Task → Type 0
@@ -71,6 +75,7 @@ Sound (Regions i c) = (compartmentOf c ≡ i) × (i < 8) × (onRegions c ≡ tru
 Sound (Segments i c) = (compartmentOf c ≡ i) × (i < 8) × (onSegments c ≡ true)
 Sound (Print i) = i < 8
 Sound Nothing = Unit {0}
+Sound (Allow i n) = i < 8
 
 -- bytes are taken: what the script prints with any others behind them is what the task does, and then the rest
 pub record Hears (line line' : List ℕ) (len : ℕ) (input : List ℕ) (used : ℕ) (h : Heard) : Type 0 where

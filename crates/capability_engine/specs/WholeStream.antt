@@ -1,5 +1,6 @@
--- Demand 3 of document 01, "The reckoning", whole: `Statement`, at the end, which proofs/WholeStream.antt proves as
--- `whole_stream`. Nothing is assumed but what the functions promise.
+-- Demand 3 of document 01, "The reckoning", whole: `Statement`, which proofs/WholeStream.antt proves as `whole_stream`; and, at
+-- the end, what document 02, order 4, says of two runs: `Independent`, proved as `independent_streams`. Nothing is assumed but
+-- what the functions promise.
 use Prim.Native.Nat.{ℕ, _+_, _*_, _/_, _^_, _<_, _≤_}
 use mathlib.Core.Path.{_≡_}
 use mathlib.Core.Bool.{Bool, true}
@@ -11,7 +12,8 @@ use Rattle.definitions.specs.Pages.{mappingGroup}
 use Rattle.definitions.specs.Reckoning.{Compartment, reckoning}
 use Rattle.definitions.specs.Agreement.{AgreesAt}
 use Rattle.definitions.specs.Questions.{accepted}
-use Rattle.definitions.specs.Calls.{streamOf, streamGroups}
+use Rattle.definitions.specs.Calls.{streamOf, streamGroups, allowance, after}
+use Rattle.definitions.specs.Independence.{own, seen}
 use Rattle.definitions.specs.declared.addr.HostAddr.{HostAddr}
 use Rattle.definitions.specs.declared.remapper.Segment.{Segment}
 use Rattle.definitions.specs.declared.remapper.Mapping.{Mapping}
@@ -43,7 +45,7 @@ pub record Memory : Type 0 where
 abbrev pub GrownBy : Memory → List Call → Type 0
 GrownBy m calls = Grown (m .words) (m .next) (m .links) (m .gens) (m .tables) calls
 
--- What the contracts in compartments.rt promise of a call on m that answers a. Add, remove, map and both unmaps leave m';
+-- What the contracts in compartments.rt promise of a call on m that answers a. Add, remove, map, both unmaps and allow leave m';
 -- get_refcount, overlaps and the page reads leave m as it is.
 abbrev pub Changes : Call → Memory → Memory → Answer → Type 0
 Changes call m m' a =
@@ -125,11 +127,34 @@ pub record StreamIs (m : Memory) (k : ℕ) (c : Compartment) : Type 0 where
   pub stepped : (copy : List ℕ) (n : ℕ) (d : RemapCursor) (found : List Mapping) → Stepped m k copy n d found
       → found ++ drop (length found) (streamOf c) ≡ streamOf c
 
+-- the calls heard, without whether they were accepted
+abbrev pub callsOf : List (Call × Bool) → List Call
+callsOf heard = map (λ h. h .0) heard
+
 -- The calls heard are all that the reckoning is fed: their arguments, and whether each was accepted.
 pub record WholeStream (m : Memory) (heard : List (Call × Bool)) : Type 0 where
   pub reckoned : (k : ℕ) → k < 8 → StreamIs m k (reckoning k heard)
   -- and what they leave is what every further call asks for
-  pub grown : GrownBy m (map (λ h. h .0) heard)
+  pub grown : GrownBy m (callsOf heard)
 
 abbrev pub Statement : Type 0
 Statement = (m : Memory) (heard : List (Call × Bool)) → Ran m heard → WholeStream m heard
+
+-- Document 02, order 4: two runs that agree on one compartment's calls and allowance at each of them give it the same answers,
+-- lists and streams, whatever the others do. The answers are those to its next call, so to each in turn; S alone is not `own`.
+pub record SameFor (k : ℕ) (m n : Memory) (xs ys : List Call) : Type 0 where
+  pub changes : (call : Call) (m' n' : Memory) (a b : Answer) → own k call ≡ true → allowance (after xs) k ≡ allowance (after ys) k
+      → Changes call m m' a → Changes call n n' b → a ≡ b
+  pub asks : (call : Call) (a b : Answer) → own k call ≡ true → allowance (after xs) k ≡ allowance (after ys) k
+      → Asks call m a → Asks call n b → a ≡ b
+  pub regions : storedAt (m .next) (m .words) (getD (m .tables .trackers) k noTracker .head)
+      ≡ storedAt (n .next) (n .words) (getD (n .tables .trackers) k noTracker .head)
+  pub segments : (other : Remapper)
+      → (ss : List Segment) × Holds (getD (m .tables .remappers) k other) ss × Holds (getD (n .tables .remappers) k other) ss
+  pub byPages : (got got' : List ℕ) → ByPages m k got → ByPages n k got' → got ≡ got'
+  pub byCursor : (found found' : List Mapping) → ByCursor m k found → ByCursor n k found' → found ≡ found'
+
+abbrev pub Independent : Type 0
+Independent =
+    (k : ℕ) → k < 8 → (m n : Memory) (xs ys : List (Call × Bool)) → Ran m xs → Ran n ys
+    → seen k (callsOf xs) ≡ seen k (callsOf ys) → SameFor k m n (callsOf xs) (callsOf ys)

@@ -1,5 +1,6 @@
 // The eight compartments over one pool, and the calls on them. The pool is lent as four slices (see region.rt), all of which
 // new checks; what was grown from there is what every other call asks for.
+use crate::region::Allowed;
 use crate::region::Changed as RegionChanged;
 use crate::region::RegionTracker;
 use crate::remapper::Change;
@@ -16,15 +17,16 @@ use gen_arena::GenArena;
 ghost use mathlib.Core.Path.{_≡_};
 ghost use mathlib.Core.Bool.{true};
 ghost use mathlib.Core.List.{List};
+ghost use Prim.Native.Nat.{_<_, _≤_};
 ghost use lib.ListN.{length};
-ghost use Rattle.definitions.specs.Calls.{streamGroups, permissionGroups, regionGroups, segmentGroups};
+ghost use Rattle.definitions.specs.Calls.{together, streamGroups, permissionGroups, regionGroups, segmentGroups};
 ghost use Rattle.definitions.specs.declared.call.Call.{Call};
-ghost use Rattle.definitions.specs.declared.call.Call.the-variants.{Add, Remove, Refcount, Overlaps, Map, Unmap, UnmapGpa, Permissions, Remap};
+ghost use Rattle.definitions.specs.declared.call.Call.the-variants.{Add, Remove, Refcount, Overlaps, Map, Unmap, UnmapGpa, Permissions, Remap, Allow};
 ghost use Rattle.capability_engine.specs.PoolOwn.{heap};
-ghost use Rattle.capability_engine.specs.RegionAsks.{Tracked};
+ghost use Rattle.capability_engine.specs.RegionAsks.{Allotted};
 ghost use Rattle.capability_engine.specs.RemapHeld.{IsHeld};
-ghost use Rattle.capability_engine.specs.CompartmentGrown.{Grown, IsGrown, Creates, Answers, Reads, ReadsPage, ReadsList};
-ghost use Rattle.capability_engine.specs.CompartmentSteps.{onRegions, onSegments, OnRegions, AsksSegments};
+ghost use Rattle.capability_engine.specs.CompartmentGrown.{allowancesOf, Grown, IsGrown, Creates, Answers, Reads, ReadsPage, ReadsList};
+ghost use Rattle.capability_engine.specs.CompartmentSteps.{onRegions, onSegments, OnRegions, AsksSegments, OnAllow};
 
 // One tracker and one remapper for each compartment, and the arena of the pool's slots.
 pub struct Tables {
@@ -55,7 +57,7 @@ pub(crate) fn on_regions(
     links: &mut [usize],
     gens: &mut [u64],
 ) -> RegionChanged
-    requires { ⌜ Tracked (now next) (now words) (heap (now links) (now gens) arena) (tracker .head) ⌝ }
+    requires { ⌜ Allotted (now next) (now words) (heap (now links) (now gens) arena) tracker ⌝ }
     ensures { λ r. ⌜ OnRegions call tracker arena (now (words .entry)) (now (next .entry)) (now (links .entry)) (now (gens .entry)) (now (words .exit)) (now (next .exit)) (now (links .exit)) (now (gens .exit)) r ⌝ }
 {
     match call {
@@ -92,6 +94,32 @@ pub(crate) fn on_segments(call: Call, remapper: Remapper) -> Change
         Call::UnmapGpa(_, gpa, size) => remapper.unmap_gpa_range(gpa, size),
         _ => Change::Keep(Answer::Accepted(0)),
     }
+}
+
+// The allowances of all eight, together.
+fn allowed(trackers: [RegionTracker; 8]) -> usize
+    requires { ⌜ (length trackers ≡ 8) × (together (allowancesOf trackers) ≤ 1024) ⌝ }
+    ensures { λ n. ⌜ n ≡ together (allowancesOf trackers) ⌝ }
+{
+    let mut n = 0;
+    let mut i = 0;
+    while i < 8 {
+        let tracker = trackers[i];
+        n += tracker.allowance;
+        i += 1;
+    }
+    n
+}
+
+// Compartment k's tracker with another allowance, by those of all eight.
+pub(crate) fn on_allow(trackers: [RegionTracker; 8], k: usize, allowance: u64) -> Allowed
+    requires { ⌜ (k < 8) × (length trackers ≡ 8) × (together (allowancesOf trackers) ≤ 1024) ⌝ }
+    ensures { λ r. ⌜ OnAllow trackers k allowance r ⌝ }
+{
+    let all = allowed(trackers);
+    let tracker = trackers[k];
+    let others = all - tracker.allowance;
+    tracker.allow(others, allowance)
 }
 
 impl Tables {
@@ -308,6 +336,43 @@ impl Tables {
         self.change_segments(call, words, next, links, gens)
     }
 
+    // Sets a compartment's allowance of records.
+    pub fn allow(
+        self,
+        compartment: u64,
+        allowance: u64,
+        words: &[u64],
+        next: &[usize],
+        links: &[usize],
+        gens: &[u64],
+    ) -> Outcome
+        requires { ⌜ IsGrown (now words) (now next) (now links) (now gens) self ⌝ }
+        ensures { λ r. ⌜ ((calls : List Call) → Grown (now (words .entry)) (now (next .entry)) (now (links .entry)) (now (gens .entry)) self calls → Answers calls (Allow compartment allowance) (now (words .entry)) (now (next .entry)) (now (links .entry)) (now (gens .entry)) self (now (words .entry)) (now (next .entry)) (now (links .entry)) (now (gens .entry)) r) ⌝ }
+    {
+        if 8 <= compartment {
+            return Outcome {
+                tables: self,
+                answer: Answer::Refused(Refusal::NoCompartment),
+            };
+        }
+        let k = compartment as usize;
+        let mut trackers = self.trackers;
+        let r = on_allow(trackers, k, allowance);
+        let changed = r.tracker;
+        trackers[k] = changed;
+        let arena = self.arena;
+        let remappers = self.remappers;
+        let answer = r.answer;
+        Outcome {
+            tables: Tables {
+                arena,
+                trackers,
+                remappers,
+            },
+            answer,
+        }
+    }
+
     // The most holders in a range of a compartment.
     pub fn get_refcount(
         self,
@@ -374,7 +439,7 @@ impl Tables {
         let k = compartment as usize;
         let trackers = self.trackers;
         let tracker = trackers[k];
-        let many = stream::permissions(next, words, tracker.head, from, out);
+        let many = stream::permissions(next, words, tracker, from, out);
         Answer::Accepted(many as u64)
     }
 

@@ -12,7 +12,7 @@ use gen_arena::GenArena;
 use gen_arena::Handle;
 use gen_arena::NewHandle;
 ghost use mathlib.Core.Path.{_≡_};
-ghost use Prim.Native.Nat.{_+_, _*_, _-_, _<_, _≤_};
+ghost use Prim.Native.Nat.{_+_, _*_, _-_, _^_, _<_, _≤_};
 ghost use lib.ListN.{length, getD};
 ghost use mathlib.Core.Bool.{true, not, _&&_, _||_};
 ghost use Rattle.definitions.specs.Tests.{if_then_else_, _<?_, _=?_, _≤?_, bit};
@@ -26,7 +26,7 @@ ghost use Rattle.definitions.proofs.Lists.{fill, change, added, removed, peak};
 ghost use Rattle.capability_engine.specs.PoolChain.{Listed, Walkable, last, slots, records, storedAt, SkipsBelow, SkipsThrough};
 ghost use Rattle.capability_engine.specs.PoolOwn.{Heap, heap, recordsOf, Ready, Room, Pass, CanInsert, Inserts, InsertsRegion, PutsGap, CanRemove, Removes, Narrows, widened, CanWiden};
 ghost use Rattle.capability_engine.specs.RegionPasses.{lowered, startOf, changedOne, Small, AllSmall, CanApplyRemove, CanAddBetween, CanRemoveBetween};
-ghost use Rattle.capability_engine.specs.RegionAsks.{everyOf, lowEnough, gapFrom, gapHere, addStep, freesOne, removeStep, Tracked, AddsRegion, RemovesRegion, foldFrom, addBegin, removeBegin, AskableAt, Countable, mostOf};
+ghost use Rattle.capability_engine.specs.RegionAsks.{everyOf, lowEnough, gapFrom, gapHere, addStep, freesOne, removeStep, AddsRegion, RemovesRegion, foldFrom, addBegin, removeBegin, AskableAt, Countable, mostOf, AllowsOne, Allotted};
 ghost use Rattle.capability_engine.specs.RegionListing.{Starts, Steps};
 
 // The slot that was put in, and the arena without it.
@@ -657,9 +657,11 @@ fn remove_between(
     left
 }
 
-// A compartment's list: its first slot, 1,024 for none.
+// A compartment's list: its first slot, 1,024 for none; how many records it has, and how many it may have.
 pub struct RegionTracker {
     pub head: usize,
+    pub count: usize,
+    pub allowance: usize,
 }
 
 // A cursor over the permissions: the slot of the record of the next one, 1,024 at the end.
@@ -671,6 +673,12 @@ pub(crate) struct PermissionIterator {
 pub(crate) enum NextPermission {
     At(MemoryPermission, PermissionIterator),
     End,
+}
+
+// What setting an allowance leaves of a tracker, and its answer.
+pub(crate) struct Allowed {
+    pub tracker: RegionTracker,
+    pub answer: Answer,
 }
 
 // What an add or a remove leaves of the list and the arena, and its answer.
@@ -1017,7 +1025,7 @@ pub(crate) fn ask_add(
     rights: u64,
 ) -> Answer
     requires { ⌜ AskableAt (now next) (now words) head room start end skipped ⌝ }
-    ensures { λ r. ⌜ r ≡ addOn (1024 - room) (storedAt (now (next .entry)) (now (words .entry)) head) start end rights ⌝ }
+    ensures { λ r. ⌜ r ≡ addOn (length (storedAt (now (next .entry)) (now (words .entry)) head) + room) (storedAt (now (next .entry)) (now (words .entry)) head) start end rights ⌝ }
 {
     let ask = walk_add(next, words, head, skipped, room, start, end, rights);
     let last = ask.from.0 < end.0;
@@ -1041,7 +1049,7 @@ pub(crate) fn ask_remove(
     rights: u64,
 ) -> Answer
     requires { ⌜ AskableAt (now next) (now words) head room start end skipped ⌝ }
-    ensures { λ r. ⌜ r ≡ removeOn (1024 - room) (storedAt (now (next .entry)) (now (words .entry)) head) start end rights ⌝ }
+    ensures { λ r. ⌜ r ≡ removeOn (length (storedAt (now (next .entry)) (now (words .entry)) head) + room) (storedAt (now (next .entry)) (now (words .entry)) head) start end rights ⌝ }
 {
     let ask = walk_remove(next, words, head, skipped, room, start, end, rights);
     let first = or(!ask.cuts_start, 0 < room);
@@ -1076,11 +1084,65 @@ fn permission(r: Region) -> MemoryPermission
 }
 
 impl RegionTracker {
-    // An empty list.
+    // An empty list, with the allowance that each compartment has at first.
     pub(crate) fn new() -> RegionTracker
-        ensures { λ r. ⌜ r .head ≡ 1024 ⌝ }
+        ensures { λ r. ⌜ (r .head ≡ 1024) × (r .count ≡ 0) × (r .allowance ≡ 128) ⌝ }
     {
-        RegionTracker { head: 1024 }
+        RegionTracker {
+            head: 1024,
+            count: 0,
+            allowance: 128,
+        }
+    }
+
+    // How many records it may still take.
+    fn room(self) -> usize
+        requires { ⌜ self .count ≤ self .allowance ⌝ }
+        ensures { λ r. ⌜ r ≡ self .allowance - self .count ⌝ }
+    {
+        self.allowance - self.count
+    }
+
+    // The list has another first slot, and as many records more as the pool has free slots fewer.
+    fn recounted(self, head: usize, before: usize, after: usize) -> RegionTracker
+        requires { ⌜ (self .count + before < 2 ^ 64) × (after ≤ self .count + before) ⌝ }
+        ensures { λ r. ⌜ r ≡ record { head = head; count = self .count + before - after; allowance = self .allowance } ⌝ }
+    {
+        RegionTracker {
+            head,
+            count: self.count + before - after,
+            allowance: self.allowance,
+        }
+    }
+
+    // Another allowance, where the other compartments' are so many together.
+    pub(crate) fn allow(self, others: usize, allowance: u64) -> Allowed
+        requires { ⌜ others ≤ 1024 ⌝ }
+        ensures { λ r. ⌜ AllowsOne self others allowance r ⌝ }
+    {
+        let rest = 1024 - others;
+        if (rest as u64) < allowance {
+            return Allowed {
+                tracker: self,
+                answer: Answer::Refused(Refusal::PoolExceeded),
+            };
+        }
+        let count = self.count;
+        if allowance < (count as u64) {
+            return Allowed {
+                tracker: self,
+                answer: Answer::Refused(Refusal::StillInUse),
+            };
+        }
+        let head = self.head;
+        Allowed {
+            tracker: RegionTracker {
+                head,
+                count,
+                allowance: allowance as usize,
+            },
+            answer: Answer::Accepted(0),
+        }
     }
 
     // The most holders of a region that shares an address with the range. Those that end below it are passed by their ends alone,
@@ -1127,11 +1189,11 @@ impl RegionTracker {
         end: HostAddr,
         rights: u64,
     ) -> Changed
-        requires { ⌜ Tracked (now next) (now words) (heap (now links) (now gens) arena) (self .head) ⌝ }
-        ensures { λ r. ⌜ AddsRegion (now (next .entry)) (now (words .entry)) (heap (now (links .entry)) (now (gens .entry)) arena) (self .head) start end rights (now (next .exit)) (now (words .exit)) (now (links .exit)) (now (gens .exit)) r ⌝ }
+        requires { ⌜ Allotted (now next) (now words) (heap (now links) (now gens) arena) self ⌝ }
+        ensures { λ r. ⌜ AddsRegion (now (next .entry)) (now (words .entry)) (heap (now (links .entry)) (now (gens .entry)) arena) self start end rights (now (next .exit)) (now (words .exit)) (now (links .exit)) (now (gens .exit)) r ⌝ }
     {
         let head = self.head;
-        let room = arena.capacity(links);
+        let room = self.room();
         let low = lesser(start, end);
         let skipped = skip_below(next, words, head, low);
         let answer = ask_add(next, words, head, skipped, room, start, end, rights);
@@ -1145,11 +1207,14 @@ impl RegionTracker {
         match answer {
             Answer::Accepted(_) => {
                 let p = skipped.last;
+                let before = arena.capacity(links);
                 next[1024] = head;
                 let left = add_between(next, words, links, gens, arena, p, start, end, rights);
                 let first = next[1024];
+                let after = left.capacity(links);
+                let tracker = self.recounted(first, before, after);
                 Changed {
-                    tracker: RegionTracker { head: first },
+                    tracker,
                     arena: left,
                     answer,
                 }
@@ -1173,11 +1238,11 @@ impl RegionTracker {
         end: HostAddr,
         rights: u64,
     ) -> Changed
-        requires { ⌜ Tracked (now next) (now words) (heap (now links) (now gens) arena) (self .head) ⌝ }
-        ensures { λ r. ⌜ RemovesRegion (now (next .entry)) (now (words .entry)) (heap (now (links .entry)) (now (gens .entry)) arena) (self .head) start end rights (now (next .exit)) (now (words .exit)) (now (links .exit)) (now (gens .exit)) r ⌝ }
+        requires { ⌜ Allotted (now next) (now words) (heap (now links) (now gens) arena) self ⌝ }
+        ensures { λ r. ⌜ RemovesRegion (now (next .entry)) (now (words .entry)) (heap (now (links .entry)) (now (gens .entry)) arena) self start end rights (now (next .exit)) (now (words .exit)) (now (links .exit)) (now (gens .exit)) r ⌝ }
     {
         let head = self.head;
-        let room = arena.capacity(links);
+        let room = self.room();
         let low = lesser(start, end);
         let skipped = skip_below(next, words, head, low);
         let answer = ask_remove(next, words, head, skipped, room, start, end, rights);
@@ -1191,11 +1256,14 @@ impl RegionTracker {
         match answer {
             Answer::Accepted(_) => {
                 let p = skipped.last;
+                let before = arena.capacity(links);
                 next[1024] = head;
                 let left = remove_between(next, words, links, gens, arena, p, start, end, rights);
                 let first = next[1024];
+                let after = left.capacity(links);
+                let tracker = self.recounted(first, before, after);
                 Changed {
-                    tracker: RegionTracker { head: first },
+                    tracker,
                     arena: left,
                     answer,
                 }

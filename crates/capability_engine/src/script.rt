@@ -1,5 +1,6 @@
 // Scripts: text in and text out, in pieces of whatever lengths.
 use crate::compartments::Tables;
+use crate::compartments::on_allow;
 use crate::compartments::on_regions;
 use crate::compartments::on_segments;
 use crate::region::RegionTracker;
@@ -75,6 +76,7 @@ pub(crate) enum Task {
     Regions(usize, Call),
     Segments(usize, Call),
     Print(usize),
+    Allow(usize, u64),
     Nothing,
 }
 
@@ -108,6 +110,7 @@ fn task_of(line: Line) -> Task
         Call::Unmap(_, _, _) => Task::Segments(i, call),
         Call::UnmapGpa(_, _, _) => Task::Segments(i, call),
         Call::Mappings(_) => Task::Print(i),
+        Call::Allow(_, allowance) => Task::Allow(i, allowance),
         _ => Task::Regions(i, call),
     }
 }
@@ -389,6 +392,13 @@ impl Tables {
                     Task::Print(i) => {
                         p.compartment = i;
                         p.from = 0;
+                    }
+                    Task::Allow(i, allowance) => {
+                        let r = on_allow(trackers, i, allowance);
+                        let changed = r.tracker;
+                        trackers[i] = changed;
+                        let answer = r.answer;
+                        p = tell(out, p, answer);
                     }
                     Task::Nothing => {}
                 }

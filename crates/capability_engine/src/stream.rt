@@ -487,16 +487,15 @@ fn fill_permissions(
 pub(crate) fn permissions(
     next: &[usize],
     words: &[u64],
-    head: usize,
+    tracker: RegionTracker,
     k: usize,
     out: &mut [u64],
 ) -> usize
     requires { ⌜ length (now words) ≡ 8192 ⌝ }
-    requires { ⌜ Listed (now next) head (slots (now next) head) ⌝ }
-    ensures { λ r. ⌜ Filled 3 (map (λ q. permissionGroup (permissionOf q)) (storedAt (now (next .entry)) (now (words .entry)) head)) k
+    requires { ⌜ Listed (now next) (tracker .head) (slots (now next) (tracker .head)) ⌝ }
+    ensures { λ r. ⌜ Filled 3 (map (λ q. permissionGroup (permissionOf q)) (storedAt (now (next .entry)) (now (words .entry)) (tracker .head))) k
         (now (out .entry)) (now (out .exit)) r ⌝ }
 {
-    let tracker = RegionTracker { head };
     let first = tracker.permissions();
     let h = follow(next, first.next, k);
     fill_permissions(PermissionIterator { next: h }, next, words, out)

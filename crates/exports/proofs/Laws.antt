@@ -16,11 +16,11 @@ use Rattle.definitions.specs.Calls.{State, start, compartment, streamOf, stream
 use Rattle.definitions.specs.Script.{Line, call, malformed, lineOf, linesOf, heading, mappingLine, mappingLines, printed, left, outputFrom, outputOf, wholeLines}
 use Rattle.definitions.specs.declared.remapper.Mapping.{Mapping}
 use Rattle.definitions.specs.declared.answer.Refusal.{Refusal}
-use Rattle.definitions.specs.declared.answer.Refusal.the-variants.{NoCompartment, InvalidMemOps, InvalidRange, CountFull, OutOfMemory, InvalidRegion, EndedBefore, CountEmpty, EmptySegment, Overflow, AlreadyAliased, NoSlot, Repeated, OthersTouched, Malformed}
+use Rattle.definitions.specs.declared.answer.Refusal.the-variants.{NoCompartment, InvalidMemOps, InvalidRange, CountFull, OutOfMemory, InvalidRegion, EndedBefore, CountEmpty, EmptySegment, Overflow, AlreadyAliased, NoSlot, Repeated, OthersTouched, Malformed, PoolExceeded, StillInUse}
 use Rattle.definitions.specs.declared.answer.Answer.{Answer}
 use Rattle.definitions.specs.declared.answer.Answer.the-variants.{Accepted, Refused}
 use Rattle.definitions.specs.declared.call.Call.{Call}
-use Rattle.definitions.specs.declared.call.Call.the-variants.{Add, Remove, Refcount, Overlaps, Map, Unmap, UnmapGpa, Permissions, Remap, Mappings}
+use Rattle.definitions.specs.declared.call.Call.the-variants.{Add, Remove, Refcount, Overlaps, Map, Unmap, UnmapGpa, Permissions, Remap, Mappings, Allow}
 use Rattle.columns.specs.Columns as columns
 use Rattle.columns.specs.declared.Put.{Put}
 use Rattle.columns.specs.declared.Put.the-variants.{At, NoRoom}
@@ -53,6 +53,8 @@ refusal-from NoSlot = omega arith
 refusal-from Repeated = omega arith
 refusal-from OthersTouched = omega arith
 refusal-from Malformed = omega arith
+refusal-from PoolExceeded = omega arith
+refusal-from StillInUse = omega arith
 
 pub from-one : (r : Refusal) (n : ℕ) → n ≡ refusalNumber r → 1 ≤ n
 from-one r n e = omega (arith, refusal-from r, e)
@@ -135,6 +137,7 @@ each-mappings s (Unmap k h n) = Prim.tt
 each-mappings s (UnmapGpa k g n) = Prim.tt
 each-mappings s (Permissions k i n) = Prim.tt
 each-mappings s (Remap k i n) = Prim.tt
+each-mappings s (Allow k n) = Prim.tt
 
 each-printed : (s : State) (l : Line) → Each (printed s l)
 each-printed s (call c) = (omega (arith, length-answer (answer s c)), each-mappings s c)

@@ -28,7 +28,7 @@ arity-few l =
     few (l =? 65) 3 _ (omega arith)
     (few (l =? 68) 3 _ (omega arith)
     (few (l =? 67) 2 _ (omega arith)
-    (few (l =? 77) 4 _ (omega arith) (few (l =? 85) 2 _ (omega arith) (few (l =? 71) 2 0 (omega arith) (omega arith))))))
+    (few (l =? 77) 4 _ (omega arith) (few (l =? 85) 2 _ (omega arith) (few (l =? 71) 2 _ (omega arith) (few (l =? 83) 1 0 (omega arith) (omega arith)))))))
 
 no-call : (l : Line) → is.Malformed ≡ lineFrom l → l ≡ malformed
 no-call malformed e = refl

@@ -51,6 +51,9 @@ fn arity_of(letter: u8) -> usize
     if letter == b'G' {
         return 2;
     }
+    if letter == b'S' {
+        return 1;
+    }
     0
 }
 
@@ -95,6 +98,9 @@ fn call_of(letter: u8, k: u64, a: u64, b: u64, c: u64, d: u64) -> Line
     }
     if letter == b'P' {
         return Line::Call(Call::Mappings(k));
+    }
+    if letter == b'S' {
+        return Line::Call(Call::Allow(k, a));
     }
     Line::Malformed
 }

@@ -30,8 +30,12 @@ returns-6 c = (rw (c .if6 .taken), omega arith)
 
 returns-7 : tie.Need-returns-7
 unfolding arity
-returns-7 c = (simp (ne-eqb (c .before .before .before .before .before .before .args .letter) 65 (c .before .before .before .before .before .if1 .left), ne-eqb (c .before .before .before .before .before .before .args .letter) 68 (c .before .before .before .before .if2 .left), ne-eqb (c .before .before .before .before .before .before .args .letter) 67 (c .before .before .before .if3 .left), ne-eqb (c .before .before .before .before .before .before .args .letter) 77 (c .before .before .if4 .left), ne-eqb (c .before .before .before .before .before .before .args .letter) 85 (c .before .if5 .left), ne-eqb (c .before .before .before .before .before .before .args .letter) 71 (c .if6 .left)), omega arith)
+returns-7 c = (rw (c .if7 .taken), omega arith)
+
+returns-8 : tie.Need-returns-8
+unfolding arity
+returns-8 c = (simp (ne-eqb (c .before .before .before .before .before .before .before .args .letter) 65 (c .before .before .before .before .before .before .if1 .left), ne-eqb (c .before .before .before .before .before .before .before .args .letter) 68 (c .before .before .before .before .before .if2 .left), ne-eqb (c .before .before .before .before .before .before .before .args .letter) 67 (c .before .before .before .before .if3 .left), ne-eqb (c .before .before .before .before .before .before .before .args .letter) 77 (c .before .before .before .if4 .left), ne-eqb (c .before .before .before .before .before .before .before .args .letter) 85 (c .before .before .if5 .left), ne-eqb (c .before .before .before .before .before .before .before .args .letter) 71 (c .before .if6 .left), ne-eqb (c .before .before .before .before .before .before .before .args .letter) 83 (c .if7 .left)), omega arith)
 
 pub arity-of-spec : {M : Type 1} → statement M
 arity-of-spec =
-    tie.close (tie.spec returns returns-2 returns-3 returns-4 returns-5 returns-6 returns-7)
+    tie.close (tie.spec returns returns-2 returns-3 returns-4 returns-5 returns-6 returns-7 returns-8)

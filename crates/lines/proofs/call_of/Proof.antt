@@ -34,9 +34,13 @@ returns-7 c = rw (c .if7 .taken)
 
 returns-8 : tie.Need-returns-8
 unfolding arity host guest
-returns-8 c = simp (ne-eqb (c .before .before .before .before .before .before .before .args .letter) 65 (c .before .before .before .before .before .before .if1 .left), ne-eqb (c .before .before .before .before .before .before .before .args .letter) 68 (c .before .before .before .before .before .if2 .left), ne-eqb (c .before .before .before .before .before .before .before .args .letter) 67 (c .before .before .before .before .if3 .left), ne-eqb (c .before .before .before .before .before .before .before .args .letter) 77 (c .before .before .before .if4 .left), ne-eqb (c .before .before .before .before .before .before .before .args .letter) 85 (c .before .before .if5 .left), ne-eqb (c .before .before .before .before .before .before .before .args .letter) 71 (c .before .if6 .left), ne-eqb (c .before .before .before .before .before .before .before .args .letter) 80 (c .if7 .left))
+returns-8 c = rw (c .if8 .taken)
+
+returns-9 : tie.Need-returns-9
+unfolding arity host guest
+returns-9 c = simp (ne-eqb (c .before .before .before .before .before .before .before .before .args .letter) 65 (c .before .before .before .before .before .before .before .if1 .left), ne-eqb (c .before .before .before .before .before .before .before .before .args .letter) 68 (c .before .before .before .before .before .before .if2 .left), ne-eqb (c .before .before .before .before .before .before .before .before .args .letter) 67 (c .before .before .before .before .before .if3 .left), ne-eqb (c .before .before .before .before .before .before .before .before .args .letter) 77 (c .before .before .before .before .if4 .left), ne-eqb (c .before .before .before .before .before .before .before .before .args .letter) 85 (c .before .before .before .if5 .left), ne-eqb (c .before .before .before .before .before .before .before .before .args .letter) 71 (c .before .before .if6 .left), ne-eqb (c .before .before .before .before .before .before .before .before .args .letter) 80 (c .before .if7 .left), ne-eqb (c .before .before .before .before .before .before .before .before .args .letter) 83 (c .if8 .left))
 
 pub call-of-spec : {M : Type 1} → statement M
 call-of-spec =
     tie.close
-    (tie.spec returns returns-2 returns-3 returns-4 returns-5 returns-6 returns-7 returns-8)
+    (tie.spec returns returns-2 returns-3 returns-4 returns-5 returns-6 returns-7 returns-8 returns-9)

@@ -20,7 +20,7 @@ enum-known-call-3 : tie.Need-enum-known-call-3
 enum-known-call-3 c = search needs
 
 get-refcount-requires : tie.Need-get-refcount-requires
-get-refcount-requires c κs = tracked-count _ _ _ _ (c .before .before .before .before .before .before .before .before .before .pre)
+get-refcount-requires c κs = tracked-count _ _ _ _ (c .before .before .before .before .before .before .before .before .before .pre .tracked)
 
 same-length : tie.Need-same-length
 same-length c = search needs

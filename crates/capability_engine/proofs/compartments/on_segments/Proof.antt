@@ -31,7 +31,7 @@ returns-3 : tie.Need-returns-3
 returns-3 c = on-unmap-gpa _ (c .unmap-gpa-range .result) _ _ _ _ (c .before .before .call3 .given .1) (c .unmap-gpa-range .ensures)
 
 returns-4 : tie.Need-returns-4
-returns-4 c = λ n d h o. absurd (not-segments _ (c .match .keys4) o)
+returns-4 c = λ n m d h o. absurd (not-segments _ (c .match .keys4) o)
 
 pub on-segments-spec : {M : Type 1} → statement M
 on-segments-spec =

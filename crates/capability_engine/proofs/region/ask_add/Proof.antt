@@ -1,5 +1,5 @@
-use native.Mathlib.Omega.{arith}
 use Rattle.capability_engine.proofs.RegionAnswers.{add-answer}
+use Rattle.capability_engine.specs.PoolChain.{storedAt}
 use borrow.Author.Needs.{needs}
 use Rattle.capability_engine.proofs.region.ask_add.Statement.{statement}
 use Rattle.capability_engine.proofs.region.ask_add.Tie as tie
@@ -35,7 +35,7 @@ in-range-requires : tie.Need-in-range-requires
 in-range-requires c κs = search needs
 
 returns : tie.Need-returns
-returns c = add-answer (c .before .before .before .before .before .before .before .before .before .before .before .before .before .before .args .start) (c .before .before .before .before .before .before .before .before .before .before .before .before .before .before .args .end) (c .before .before .before .before .before .before .before .before .before .before .before .before .before .before .args .rights) _ _ (c .before .before .before .before .before .before .before .before .before .before .before .walk-add .result) _ _ _ _ _ _ _ _ _ (omega (arith, c .before .before .before .before .before .before .before .before .before .before .before .before .before .before .pre .askable .few)) (c .before .before .before .before .before .before .before .before .before .before .before .walk-add .ensures) (c .before .before .before .before .before .before .before .before .less .ensures) (c .before .before .before .before .before .before .before .less2 .ensures) (c .before .before .before .before .before .before .less3 .ensures) (c .before .before .before .before .before .or .ensures) (c .before .before .before .before .or2 .ensures) (c .before .before .before .number .ensures) (c .before .before .pick .ensures) (c .before .pick2 .ensures) (c .in-range .ensures)
+returns c = add-answer (c .before .before .before .before .before .before .before .before .before .before .before .before .before .before .args .start) (c .before .before .before .before .before .before .before .before .before .before .before .before .before .before .args .end) (c .before .before .before .before .before .before .before .before .before .before .before .before .before .before .args .rights) (c .before .before .before .before .before .before .before .before .before .before .before .before .before .before .args .room) (storedAt (c .before .before .before .before .before .before .before .before .before .before .before .before .before .before .args .next .now) (c .before .before .before .before .before .before .before .before .before .before .before .before .before .before .args .words .now) (c .before .before .before .before .before .before .before .before .before .before .before .before .before .before .args .head)) (c .before .before .before .before .before .before .before .before .before .before .before .walk-add .result) _ _ _ _ _ _ _ _ _ (c .before .before .before .before .before .before .before .before .before .before .before .walk-add .ensures) (c .before .before .before .before .before .before .before .before .less .ensures) (c .before .before .before .before .before .before .before .less2 .ensures) (c .before .before .before .before .before .before .less3 .ensures) (c .before .before .before .before .before .or .ensures) (c .before .before .before .before .or2 .ensures) (c .before .before .before .number .ensures) (c .before .before .pick .ensures) (c .before .pick2 .ensures) (c .in-range .ensures)
 
 pub ask-add-spec : {M : Type 1} → statement M
 ask-add-spec =

@@ -1,4 +1,5 @@
 use Rattle.capability_engine.proofs.RegionAnswers.{remove-answer}
+use Rattle.capability_engine.specs.PoolChain.{storedAt}
 use borrow.Author.Needs.{needs}
 use Rattle.capability_engine.proofs.region.ask_remove.Statement.{statement}
 use Rattle.capability_engine.proofs.region.ask_remove.Tie as tie
@@ -37,7 +38,7 @@ in-range-requires : tie.Need-in-range-requires
 in-range-requires c κs = search needs
 
 returns : tie.Need-returns
-returns c = remove-answer (c .before .before .before .before .before .before .before .before .before .before .before .before .before .before .before .before .before .before .args .start) (c .before .before .before .before .before .before .before .before .before .before .before .before .before .before .before .before .before .before .args .end) (c .before .before .before .before .before .before .before .before .before .before .before .before .before .before .before .before .before .before .args .rights) _ _ (c .before .before .before .before .before .before .before .before .before .before .before .before .before .before .before .walk-remove .result) _ _ _ _ _ _ _ _ _ _ (c .before .before .before .before .before .before .before .before .before .before .before .before .before .before .before .before .before .before .pre .askable .list .ordered) (c .before .before .before .before .before .before .before .before .before .before .before .before .before .before .before .before .before .before .pre .askable .few) (c .before .before .before .before .before .before .before .before .before .before .before .before .before .before .before .walk-remove .ensures) (c .before .before .before .before .before .before .before .before .before .before .before .before .before .or .ensures) (c .before .before .before .before .before .before .before .before .before .before .before .less .ensures) (c .before .before .before .before .before .before .before .before .before .or2 .ensures) (c .before .before .before .before .before .before .and .ensures) (c .before .before .before .before .before .before .before .before .number .ensures) (c .before .before .before .before .before .before .before .pick .ensures) (c .before .before .before .before .before .pick2 .ensures) (c .before .before .pick3 .ensures) (c .before .pick4 .ensures) (c .in-range .ensures)
+returns c = remove-answer (c .before .before .before .before .before .before .before .before .before .before .before .before .before .before .before .before .before .before .args .start) (c .before .before .before .before .before .before .before .before .before .before .before .before .before .before .before .before .before .before .args .end) (c .before .before .before .before .before .before .before .before .before .before .before .before .before .before .before .before .before .before .args .rights) (c .before .before .before .before .before .before .before .before .before .before .before .before .before .before .before .before .before .before .args .room) (storedAt (c .before .before .before .before .before .before .before .before .before .before .before .before .before .before .before .before .before .before .args .next .now) (c .before .before .before .before .before .before .before .before .before .before .before .before .before .before .before .before .before .before .args .words .now) (c .before .before .before .before .before .before .before .before .before .before .before .before .before .before .before .before .before .before .args .head)) (c .before .before .before .before .before .before .before .before .before .before .before .before .before .before .before .walk-remove .result) _ _ _ _ _ _ _ _ _ _ (c .before .before .before .before .before .before .before .before .before .before .before .before .before .before .before .before .before .before .pre .askable .list .ordered) (c .before .before .before .before .before .before .before .before .before .before .before .before .before .before .before .before .before .before .pre .askable .few) (c .before .before .before .before .before .before .before .before .before .before .before .before .before .before .before .walk-remove .ensures) (c .before .before .before .before .before .before .before .before .before .before .before .before .before .or .ensures) (c .before .before .before .before .before .before .before .before .before .before .before .less .ensures) (c .before .before .before .before .before .before .before .before .before .or2 .ensures) (c .before .before .before .before .before .before .and .ensures) (c .before .before .before .before .before .before .before .before .number .ensures) (c .before .before .before .before .before .before .before .pick .ensures) (c .before .before .before .before .before .pick2 .ensures) (c .before .before .pick3 .ensures) (c .before .pick4 .ensures) (c .in-range .ensures)
 
 pub ask-remove-spec : {M : Type 1} → statement M
 ask-remove-spec =

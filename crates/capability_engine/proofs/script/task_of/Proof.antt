@@ -1,6 +1,6 @@
 use Prim.Native.Nat.{ℕ}
 use Rattle.definitions.specs.Reckoning.{compartmentOf}
-use Rattle.capability_engine.specs.declared.script.Task.the-variants.{Segments, Print, Regions}
+use Rattle.capability_engine.specs.declared.script.Task.the-variants.{Segments, Print, Regions, Allow}
 use Rattle.capability_engine.proofs.ScriptTasks.{task-none, task-on, task-other}
 use borrow.Author.Needs.{needs}
 use Rattle.capability_engine.proofs.script.task_of.Statement.{statement}
@@ -33,6 +33,9 @@ enum-told-4 c = search needs
 enum-told-5 : tie.Need-enum-told-5
 enum-told-5 c = search needs
 
+enum-known-call : tie.Need-enum-known-call
+enum-known-call c = search needs
+
 returns-3 : tie.Need-returns-3
 unfolding compartmentOf
 returns-3 c = task-on _ _ (c .before .before .before .before .before .line .given .1) _ (c .before .before .before .compartment .ensures) (λ (k : ℕ). Segments k (c .before .before .before .before .before .line .given .0 .0)) (c .before .before .if1 .left) (rw (c .enum-told2 .given .1))
@@ -50,7 +53,11 @@ unfolding compartmentOf
 returns-6 c = task-on _ _ (c .before .before .before .before .before .line .given .1) _ (c .before .before .before .compartment .ensures) Print (c .before .before .if1 .left) (rw (c .enum-told5 .given .1))
 
 returns-7 : tie.Need-returns-7
-returns-7 c = task-on _ _ (c .before .before .before .before .line .given .1) _ (c .before .before .compartment .ensures) (λ (k : ℕ). Regions k (c .before .before .before .before .line .given .0 .0)) (c .before .if1 .left) (task-other _ (c .match2 .keys5))
+unfolding compartmentOf
+returns-7 c = task-on _ _ (c .before .before .before .before .before .before .line .given .1) _ (c .before .before .before .before .compartment .ensures) (λ (k : ℕ). Allow k (c .before .call .given .0 .1 .0)) (c .before .before .before .if1 .left) (rw (c .before .call .given .1))
+
+returns-8 : tie.Need-returns-8
+returns-8 c = task-on _ _ (c .before .before .before .before .line .given .1) _ (c .before .before .compartment .ensures) (λ (k : ℕ). Regions k (c .before .before .before .before .line .given .0 .0)) (c .before .if1 .left) (task-other _ (c .match2 .keys6))
 
 pub task-of-spec : {M : Type 1} → statement M
 task-of-spec =
@@ -65,8 +72,10 @@ task-of-spec =
     enum-told-3
     enum-told-4
     enum-told-5
+    enum-known-call
     returns-3
     returns-4
     returns-5
     returns-6
-    returns-7)
+    returns-7
+    returns-8)

@@ -16,7 +16,7 @@ same-length : tie.Need-same-length
 same-length c = search needs
 
 returns : tie.Need-returns
-returns c = page-from _ _ _ _ (c .before .before .before .before .before .before .before .before .before .args .head) (c .before .before .before .before .before .before .before .before .before .args .k) _ _ _ (c .before .before .before .before .before .permissions .ensures _ _ (record { listed = c .before .before .before .before .before .before .before .before .before .pre .1; words = c .before .before .before .before .before .before .before .before .before .pre .0 }) .1) (c .before .before .before .before .follow .ensures .1) (c .before .before .fill-permissions .ensures)
+returns c = page-from _ _ _ _ (c .before .before .before .before .before .before .before .before .before .args .tracker .head) (c .before .before .before .before .before .before .before .before .before .args .k) _ _ _ (c .before .before .before .before .before .permissions .ensures _ _ (record { listed = c .before .before .before .before .before .before .before .before .before .pre .1; words = c .before .before .before .before .before .before .before .before .before .pre .0 }) .1) (c .before .before .before .before .follow .ensures .1) (c .before .before .fill-permissions .ensures)
 
 pub permissions-spec : {M : Type 1} → statement M
 permissions-spec =

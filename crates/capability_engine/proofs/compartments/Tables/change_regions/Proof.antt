@@ -1,6 +1,6 @@
 use native.Mathlib.Omega.{arith}
 use mathlib.Core.Path.{sym}
-use Rattle.capability_engine.proofs.CompartmentLaws.{grown-tracked}
+use Rattle.capability_engine.proofs.CompartmentLaws.{grown-allotted}
 use Rattle.capability_engine.proofs.CompartmentReads.{past-answers}
 use Rattle.capability_engine.proofs.CompartmentCalls.{regions-answers}
 use borrow.Author.Needs.{needs}
@@ -22,7 +22,7 @@ array-copy-out-tracker : tie.Need-array-copy-out-tracker
 array-copy-out-tracker c = search needs
 
 on-regions-requires : tie.Need-on-regions-requires
-on-regions-requires c κs = grown-tracked _ _ _ _ _ _ (c .before .before .before .before .before .before .before .before .before .before .before .before .pre .0 .grown .pooled) _ (omega (arith, c .before .before .before .before .before .before .if1 .left)) _
+on-regions-requires c κs = grown-allotted _ _ _ _ _ _ (c .before .before .before .before .before .before .before .before .before .before .before .before .pre .0 .grown .pooled) _ (omega (arith, c .before .before .before .before .before .before .if1 .left)) _
 
 mul-trackers : tie.Need-mul-trackers
 mul-trackers c = search needs

@@ -7,7 +7,8 @@ use mathlib.Core.Path.{sym, _∙_}
 use lib.ListN.{length}
 use Rattle.definitions.specs.declared.call.Call.{Call}
 use Rattle.capability_engine.specs.CompartmentGrown.{Grown}
-use Rattle.capability_engine.proofs.ScriptGoing.{toDo, scriptAt, Going, going-start, shown, going-room, going-print, going-full, going-tell, going-part, going-owed, regions-sound, regions-tracked, going-regions, segments-sound, segments-held, segments-kept, going-segments, going-same, less-heard, less-told, less-full, less-print, going-end, sized}
+use Rattle.capability_engine.proofs.ScriptGoing.{toDo, scriptAt, Going, going-start, shown, going-room, going-print, going-full, going-tell, going-part, going-owed, regions-sound, regions-tracked, going-regions, segments-sound, segments-held, segments-kept, allow-sound, allow-few, going-allow, going-segments, going-same, less-heard, less-told, less-full, less-print, going-end, sized}
+use Rattle.capability_engine.proofs.CompartmentFacts.{trackers-eight}
 use Rattle.capability_engine.proofs.CompartmentCalls.{keeps, puts, cuts, ready-put, ready-cut, refused-same}
 use Rattle.capability_engine.proofs.compartments.Tables.feed.Statement.{statement}
 use Rattle.capability_engine.proofs.compartments.Tables.feed.Tie as tie
@@ -204,14 +205,35 @@ loop-less-10 c = less-heard _ _ _ (c .before .before .before .before .hear .ensu
 loop-again-10 : tie.Need-loop-again-10 Inv-loop μ-loop
 loop-again-10 c = λ calls g. going-owed _ _ _ _ _ _ _ _ _ _ _ _ (c .before .before .before .before .before .before .before .before .before .before .before .loop .inv calls g) (c .before .before .before .before .before .before .before .before .if2 .left) (c .before .before .before .before .before .before .before .before .before .before .goes-on .ensures .on (c .before .before .before .before .before .before .before .before .before .if1 .taken) .0) _ _ (c .before .before .before .before .hear .ensures) _ (c .before .task4 .given .1)
 
+enum-known-task-5 : tie.Need-enum-known-task-5 Inv-loop μ-loop
+enum-known-task-5 c = search needs
+
+on-allow-requires : tie.Need-on-allow-requires Inv-loop μ-loop
+on-allow-requires c κs = (allow-sound _ _ _ _ _ _ _ _ _ _ _ _ (c .before .before .before .before .before .before .before .before .before .before .before .loop .inv (c .before .before .before .before .before .before .before .before .before .before .before .before .before .before .before .before .before .before .before .before .before .before .before .pre .calls) (c .before .before .before .before .before .before .before .before .before .before .before .before .before .before .before .before .before .before .before .before .before .before .before .pre .grown)) (c .before .before .before .before .before .before .before .before .if2 .left) (c .before .before .before .before .before .before .before .before .before .before .goes-on .ensures .on (c .before .before .before .before .before .before .before .before .before .if1 .taken) .0) _ _ (c .before .before .before .before .hear .ensures) _ _ (c .before .task5 .given .1), trackers-eight _ _ _ _ _ _ ((c .before .before .before .before .before .before .before .before .before .before .before .loop .inv (c .before .before .before .before .before .before .before .before .before .before .before .before .before .before .before .before .before .before .before .before .before .before .before .pre .calls) (c .before .before .before .before .before .before .before .before .before .before .before .before .before .before .before .before .before .before .before .before .before .before .before .pre .grown)) .grown), allow-few _ _ _ _ _ _ _ _ _ _ _ _ (c .before .before .before .before .before .before .before .before .before .before .before .loop .inv (c .before .before .before .before .before .before .before .before .before .before .before .before .before .before .before .before .before .before .before .before .before .before .before .pre .calls) (c .before .before .before .before .before .before .before .before .before .before .before .before .before .before .before .before .before .before .before .before .before .before .before .pre .grown)) (c .before .before .before .before .before .before .before .before .if2 .left) (c .before .before .before .before .before .before .before .before .before .before .goes-on .ensures .on (c .before .before .before .before .before .before .before .before .before .if1 .taken) .0) _ _ (c .before .before .before .before .hear .ensures) _ _ (c .before .task5 .given .1))
+
+mul-trackers-2 : tie.Need-mul-trackers-2 Inv-loop μ-loop
+mul-trackers-2 c = record { fits = omega (arith, allow-sound _ _ _ _ _ _ _ _ _ _ _ _ (c .before .before .before .before .before .before .before .before .before .before .before .before .before .loop .inv (c .before .before .before .before .before .before .before .before .before .before .before .before .before .before .before .before .before .before .before .before .before .before .before .before .before .pre .calls) (c .before .before .before .before .before .before .before .before .before .before .before .before .before .before .before .before .before .before .before .before .before .before .before .before .before .pre .grown)) (c .before .before .before .before .before .before .before .before .before .before .if2 .left) (c .before .before .before .before .before .before .before .before .before .before .before .before .goes-on .ensures .on (c .before .before .before .before .before .before .before .before .before .before .before .if1 .taken) .0) _ _ (c .before .before .before .before .before .before .hear .ensures) _ _ (c .before .before .before .task5 .given .1)) }
+
+array-set-from-trackers-2 : tie.Need-array-set-from-trackers-2 Inv-loop μ-loop
+array-set-from-trackers-2 c = allow-sound _ _ _ _ _ _ _ _ _ _ _ _ (c .before .before .before .before .before .before .before .before .before .before .before .before .before .loop .inv (c .before .before .before .before .before .before .before .before .before .before .before .before .before .before .before .before .before .before .before .before .before .before .before .before .before .pre .calls) (c .before .before .before .before .before .before .before .before .before .before .before .before .before .before .before .before .before .before .before .before .before .before .before .before .before .pre .grown)) (c .before .before .before .before .before .before .before .before .before .before .if2 .left) (c .before .before .before .before .before .before .before .before .before .before .before .before .goes-on .ensures .on (c .before .before .before .before .before .before .before .before .before .before .before .if1 .taken) .0) _ _ (c .before .before .before .before .before .before .hear .ensures) _ _ (c .before .before .before .task5 .given .1)
+
+tell-requires-6 : tie.Need-tell-requires-6 Inv-loop μ-loop
+tell-requires-6 c κs = ((room _ _ 25 _ (c .before .before .before .before .before .before .before .before .before .before .has-room .ensures) (c .before .before .before .before .before .before .before .before .before .if3 .left)), (c .before .before .before .before .before .before .before .before .before .before .before .before .before .before .loop .inv (c .before .before .before .before .before .before .before .before .before .before .before .before .before .before .before .before .before .before .before .before .before .before .before .before .before .before .pre .calls) (c .before .before .before .before .before .before .before .before .before .before .before .before .before .before .before .before .before .before .before .before .before .before .before .before .before .before .pre .grown)) .adds .counted)
+
+loop-less-11 : tie.Need-loop-less-11 Inv-loop μ-loop
+loop-less-11 c = less-told _ _ _ _ (c .before .before .tell6 .ensures .1) (c .before .before .before .before .before .before .before .before .before .before .hear .ensures .ahead) (c .before .before .before .before .before .before .before .before .before .before .hear .ensures .taken)
+
+loop-again-11 : tie.Need-loop-again-11 Inv-loop μ-loop
+loop-again-11 c = λ calls g. going-allow _ _ _ _ _ _ _ _ _ _ _ _ (c .before .before .before .before .before .before .before .before .before .before .before .before .before .before .before .before .before .loop .inv calls g) (c .before .before .before .before .before .before .before .before .before .before .before .before .before .before .if2 .left) (c .before .before .before .before .before .before .before .before .before .before .before .before .before .before .before .before .goes-on .ensures .on (c .before .before .before .before .before .before .before .before .before .before .before .before .before .before .before .if1 .taken) .0) _ _ (c .before .before .before .before .before .before .before .before .before .before .hear .ensures) _ _ (c .before .before .before .before .before .before .before .task5 .given .1) (c .before .before .before .before .before .on-allow .result) _ _ (c .before .before .before .before .before .on-allow .ensures) (c .before .before .tell6 .ensures .0) (c .before .before .tell6 .ensures .1) (room _ _ 25 _ (c .before .before .before .before .before .before .before .before .before .before .before .before .before .has-room .ensures) (c .before .before .before .before .before .before .before .before .before .before .before .before .if3 .left))
+
 enum-told-5 : tie.Need-enum-told-5 Inv-loop μ-loop
 enum-told-5 c = search needs
 
-loop-less-11 : tie.Need-loop-less-11 Inv-loop μ-loop
-loop-less-11 c = less-heard _ _ _ (c .before .before .before .hear .ensures .ahead) (c .before .before .before .hear .ensures .taken)
+loop-less-12 : tie.Need-loop-less-12 Inv-loop μ-loop
+loop-less-12 c = less-heard _ _ _ (c .before .before .before .hear .ensures .ahead) (c .before .before .before .hear .ensures .taken)
 
-loop-again-11 : tie.Need-loop-again-11 Inv-loop μ-loop
-loop-again-11 c = λ calls g. going-part _ _ _ _ _ _ _ _ _ _ _ _ (c .before .before .before .before .before .before .before .before .before .before .loop .inv calls g) (c .before .before .before .before .before .before .before .if2 .left) (c .before .before .before .before .before .before .before .before .before .goes-on .ensures .on (c .before .before .before .before .before .before .before .before .if1 .taken) .0) _ _ (c .before .before .before .hear .ensures) (c .enum-told5 .given .1)
+loop-again-12 : tie.Need-loop-again-12 Inv-loop μ-loop
+loop-again-12 c = λ calls g. going-part _ _ _ _ _ _ _ _ _ _ _ _ (c .before .before .before .before .before .before .before .before .before .before .loop .inv calls g) (c .before .before .before .before .before .before .before .if2 .left) (c .before .before .before .before .before .before .before .before .before .goes-on .ensures .on (c .before .before .before .before .before .before .before .before .if1 .taken) .0) _ _ (c .before .before .before .hear .ensures) (c .enum-told5 .given .1)
 
 same-length : tie.Need-same-length Inv-loop μ-loop
 same-length c = going-room _ _ _ _ _ _ _ _ _ _ _ _ (c .before .before .loop .inv (c .before .before .before .before .before .before .before .before .before .before .before .before .before .before .pre .calls) (c .before .before .before .before .before .before .before .before .before .before .before .before .before .before .pre .grown))
@@ -298,9 +320,16 @@ feed-spec =
     enum-known-task-4
     loop-less-10
     loop-again-10
-    enum-told-5
+    enum-known-task-5
+    on-allow-requires
+    mul-trackers-2
+    array-set-from-trackers-2
+    tell-requires-6
     loop-less-11
     loop-again-11
+    enum-told-5
+    loop-less-12
+    loop-again-12
     same-length
     same-length-2
     same-length-3
