@@ -1,5 +1,5 @@
-// Runs layouts of document 01 that concern regions over the public calls, and writes each answer: the call, its answer's
-// number and its value. Then the pool is filled, from one compartment and from all, and emptied.
+// Runs layouts of document 01, and of document 02's order 4, that concern regions over the public calls, and writes each answer:
+// the call, its answer's number and its value. Then the pool is filled, from one compartment and from all, and emptied.
 use capability_engine::Tables;
 use definitions::Answer;
 use definitions::HostAddr;
@@ -7,9 +7,9 @@ use libc::STDOUT_FILENO;
 ghost use Rattle.capability_engine.specs.CompartmentGrown.{IsGrown};
 ghost use Prim.Native.Nat.{_<_, _≤_};
 
-// Five numbers a row: the call (0 fresh tables, 1 add, 2 remove, 3 get_refcount, 4 permissions), the compartment, and its
-// start, end and rights, or the permission to read from.
-const LAYOUTS: [u64; 190] = [
+// Five numbers a row: the call (0 fresh tables, 1 add, 2 remove, 3 get_refcount, 4 permissions, 5 allow), the compartment, and
+// its start, end and rights, or the permission to read from, or the allowance.
+const LAYOUTS: [u64; 315] = [
     1,
     0,
     0,
@@ -200,6 +200,131 @@ const LAYOUTS: [u64; 190] = [
     0,
     0,
     0,
+    5,
+    0,
+    129,
+    0,
+    0, // 8 times 128 is all there is: 18
+    5,
+    0,
+    18446744073709551615,
+    0,
+    0, // and no sum wraps
+    5,
+    8,
+    0,
+    0,
+    0, // 1
+    5,
+    1,
+    127,
+    0,
+    0, // what another gives up
+    5,
+    0,
+    129,
+    0,
+    0, // can be had
+    0,
+    0,
+    0,
+    0,
+    0,
+    5,
+    0,
+    1,
+    0,
+    0,
+    1,
+    0,
+    0,
+    10,
+    1,
+    1,
+    0,
+    20,
+    30,
+    1, // 5, with most of the pool free
+    2,
+    0,
+    0,
+    5,
+    1, // 5: the cut would need a record
+    1,
+    1,
+    20,
+    30,
+    1, // a neighbour has its own
+    5,
+    0,
+    2,
+    0,
+    0,
+    1,
+    0,
+    20,
+    30,
+    1,
+    5,
+    0,
+    1,
+    0,
+    0, // two are in use: 19
+    5,
+    0,
+    2,
+    0,
+    0, // down to what is in use
+    4,
+    0,
+    0,
+    0,
+    0,
+    0,
+    0,
+    0,
+    0,
+    0,
+    5,
+    1,
+    0,
+    0,
+    0, // the others to 0, then one has the whole pool
+    5,
+    2,
+    0,
+    0,
+    0,
+    5,
+    3,
+    0,
+    0,
+    0,
+    5,
+    4,
+    0,
+    0,
+    0,
+    5,
+    5,
+    0,
+    0,
+    0,
+    5,
+    6,
+    0,
+    0,
+    0,
+    5,
+    7,
+    0,
+    0,
+    0,
+    5,
+    0,
+    1024,
+    0,
+    0,
 ];
 
 fn text(bytes: &[u8]) {
@@ -268,6 +393,25 @@ fn count(
     show(answer, true);
 }
 
+// Sets an allowance, and writes the answer.
+fn allow(
+    t: Tables,
+    k: u64,
+    allowance: u64,
+    words: &[u64],
+    next: &[usize],
+    links: &[usize],
+    gens: &[u64],
+) -> Tables
+    requires { ⌜ IsGrown (now words) (now next) (now links) (now gens) t ⌝ }
+    ensures { λ r. ⌜ IsGrown (now (words .entry)) (now (next .entry)) (now (links .entry)) (now (gens .entry)) r ⌝ }
+{
+    let o = t.allow(k, allowance, words, next, links, gens);
+    let answer = o.answer;
+    show(answer, true);
+    o.tables
+}
+
 // A page of at most three permissions, from a place on: the whole slice is written, with 7 where nothing was read.
 fn permissions(
     t: Tables,
@@ -314,7 +458,7 @@ fn row(
     links: &mut [usize],
     gens: &mut [u64],
 ) -> Tables
-    requires { ⌜ i < 38 ⌝ }
+    requires { ⌜ i < 63 ⌝ }
     requires { ⌜ IsGrown (now words) (now next) (now links) (now gens) t ⌝ }
     ensures { λ r. ⌜ IsGrown (now (words .exit)) (now (next .exit)) (now (links .exit)) (now (gens .exit)) r ⌝ }
 {
@@ -339,6 +483,9 @@ fn row(
     if call == 4 {
         permissions(t, k, from, words, next, links, gens);
         return t;
+    }
+    if call == 5 {
+        return allow(t, k, from, words, next, links, gens);
     }
     let adds = call == 1;
     change(t, adds, k, from, to, rights, true, words, next, links, gens)
@@ -411,8 +558,8 @@ fn cleared(
     requires { ⌜ IsGrown (now words) (now next) (now links) (now gens) t ⌝ }
     ensures { λ r. ⌜ IsGrown (now (words .exit)) (now (next .exit)) (now (links .exit)) (now (gens .exit)) r ⌝ }
 {
-    let last = change(t, true, 7, 0, 4096, 3, true, words, next, links, gens);
-    permissions(last, 7, 0, words, next, links, gens);
+    let last = change(t, true, 0, 0, 4096, 3, true, words, next, links, gens);
+    permissions(last, 0, 0, words, next, links, gens);
     fresh(last, words, next, links, gens)
 }
 
@@ -440,7 +587,7 @@ fn run(t: Tables, words: &mut [u64], next: &mut [usize], links: &mut [usize], ge
 {
     let mut t = t;
     let mut i: usize = 0;
-    while i < 38 {
+    while i < 63 {
         t = row(t, i, words, next, links, gens);
         i += 1;
     }

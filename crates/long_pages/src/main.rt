@@ -59,10 +59,29 @@ fn put_print(script: &mut [u8], at: usize) -> usize {
     put_byte(script, end, b'\n')
 }
 
+fn put_allow(script: &mut [u8], at: usize, compartment: u64, allowance: u64) -> usize {
+    let named = put_byte(script, at, b'S');
+    let placed = put_number(script, named, 2, compartment);
+    let end = put_number(script, placed, 21, allowance);
+    put_byte(script, end, b'\n')
+}
+
+// The whole pool for compartment 0.
+fn put_allowances(script: &mut [u8]) -> usize {
+    let mut at = 0;
+    let mut k: u64 = 1;
+    while k < 8 {
+        at = put_allow(script, at, k, 0);
+        k += 1;
+    }
+    put_allow(script, at, 0, 1024)
+}
+
 // 1,024 records of one address each: every other one is written to besides. The highest come first, so that an add goes past
 // one record only.
 fn put_records(script: &mut [u8]) -> usize {
-    let mut at = put_add(script, 0, 0, 1024, 1);
+    let allowed = put_allowances(script);
+    let mut at = put_add(script, allowed, 0, 1024, 1);
     let mut i: u64 = 512;
     while i > 0 {
         i -= 1;

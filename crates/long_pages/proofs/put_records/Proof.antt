@@ -6,10 +6,13 @@ use Rattle.long_pages.proofs.put_records.Statement.{statement}
 use Rattle.long_pages.proofs.put_records.Tie as tie
 
 abbrev Inv-loop : tie.InvT-loop
-Inv-loop script₀ at₀ i₀ script at i = (i ≤ 512) × (length script ≡ length script₀)
+Inv-loop script₀ allowed at₀ i₀ script at i = (i ≤ 512) × (length script ≡ length script₀)
 
 abbrev μ-loop : tie.MeasureT-loop
-μ-loop script₀ at₀ i₀ script at i = i
+μ-loop script₀ allowed at₀ i₀ script at i = i
+
+put-allowances-requires : tie.Need-put-allowances-requires Inv-loop μ-loop
+put-allowances-requires c κs = search needs
 
 put-add-requires : tie.Need-put-add-requires Inv-loop μ-loop
 put-add-requires c κs = search needs
@@ -53,6 +56,7 @@ put-records-spec =
     (tie.spec
     Inv-loop
     μ-loop
+    put-allowances-requires
     put-add-requires
     loop-holds
     sub-i
