@@ -62,6 +62,10 @@ fn show_call(call: Call) {
         Call::Mappings(k) => {
             letter(b'P', k);
         }
+        Call::Allow(k, allowance) => {
+            letter(b'S', k);
+            number(allowance);
+        }
         _ => {}
     }
 }
@@ -124,7 +128,7 @@ fn show_written() {
 }
 
 fn main() {
-    let mut text = io::buffer();
+    let mut text = io::large_buffer();
     let n = io::read_full(STDIN_FILENO, &mut text);
     show_lines(&text[..n]);
     show_written();
