@@ -1,4 +1,5 @@
 //! The original as judge of the port: scripts go through both, and every answer, list and stream is compared.
+pub mod allowances;
 pub mod compare;
 pub mod cuts;
 pub mod guests;

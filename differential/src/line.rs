@@ -9,10 +9,11 @@ pub enum Kind {
     Unmap,
     UnmapGpa,
     Print,
+    Allow,
 }
 
-pub const KINDS: [Kind; 7] =
-    [Kind::Add, Kind::Remove, Kind::Count, Kind::Map, Kind::Unmap, Kind::UnmapGpa, Kind::Print];
+pub const KINDS: [Kind; 8] =
+    [Kind::Add, Kind::Remove, Kind::Count, Kind::Map, Kind::Unmap, Kind::UnmapGpa, Kind::Print, Kind::Allow];
 
 impl Kind {
     pub fn letter(self) -> u8 {
@@ -24,6 +25,7 @@ impl Kind {
             Kind::Unmap => b'U',
             Kind::UnmapGpa => b'G',
             Kind::Print => b'P',
+            Kind::Allow => b'S',
         }
     }
 
@@ -37,6 +39,7 @@ impl Kind {
             Kind::Map => 4,
             Kind::Count | Kind::Unmap | Kind::UnmapGpa => 2,
             Kind::Print => 0,
+            Kind::Allow => 1,
         }
     }
 }

@@ -3,7 +3,7 @@ use crate::compare::Script;
 use crate::line::{Call, Kind};
 use crate::random::Random;
 
-/// Lines that many scripts begin with.
+/// Lines that many scripts begin with. Those with more than 128 records first have the whole pool for compartment 0.
 #[derive(Clone, Copy, Debug, PartialEq, Eq, Hash)]
 pub enum Preamble {
     None,
@@ -36,15 +36,26 @@ pub const PREAMBLES: [Preamble; 12] = [
     Preamble::Stairs(64),
 ];
 
+fn allow(k: u64, allowance: u64) -> Call {
+    Call::new(Kind::Allow, k, &[allowance])
+}
+
+/// Compartment 0 is allowed all records, and the others none.
+pub fn whole_pool() -> Vec<Call> {
+    (1..8).map(|k| allow(k, 0)).chain([allow(0, 1024)]).collect()
+}
+
 impl Preamble {
     pub fn calls(self) -> Vec<Call> {
         let add = |start, end| Call::new(Kind::Add, 0, &[start, end, 1]);
+        let pooled = |adds: Vec<Call>| [whole_pool(), adds].concat();
         match self {
             Preamble::None => Vec::new(),
-            Preamble::Singles(n) => (0..n).map(|i| add(2 * i, 2 * i + 1)).collect(),
-            Preamble::Nested(n) => (0..n).map(|i| add(i, 3000 - i)).collect(),
+            Preamble::Singles(n) => pooled((0..n).map(|i| add(2 * i, 2 * i + 1)).collect()),
+            Preamble::Nested(n) => pooled((0..n).map(|i| add(i, 3000 - i)).collect()),
             Preamble::Apart(n) => {
-                std::iter::once(add(0, 10)).chain((0..n).map(|i| add(100 + 2 * i, 101 + 2 * i))).collect()
+                let singles = (0..n).map(|i| add(100 + 2 * i, 101 + 2 * i));
+                pooled(std::iter::once(add(0, 10)).chain(singles).collect())
             }
             Preamble::Segments(n) => {
                 let map = |i| Call::new(Kind::Map, 0, &[10 * i, 1000 + 10 * i, 8, 1]);
@@ -64,14 +75,15 @@ impl Preamble {
 
 /// Where a shape draws its numbers from.
 struct Shape {
-    /// Of 12 lines, how many are A, D, C, M, U, G and P.
-    letters: [u64; 7],
+    /// Of some 12 lines, how many are A, D, C, M, U, G, P and S.
+    letters: [u64; 8],
     host: fn(&mut Random) -> u64,
     guest: fn(&mut Random) -> u64,
     size: fn(&mut Random) -> u64,
     repeat: fn(&mut Random) -> u64,
     rights: fn(&mut Random) -> u64,
     compartment: fn(&mut Random) -> u64,
+    allowance: fn(&mut Random) -> u64,
     lines: (u64, u64),
     preambles: &'static [Preamble],
 }
@@ -199,24 +211,47 @@ fn eight(r: &mut Random) -> u64 {
     r.below(9)
 }
 
+fn two(r: &mut Random) -> u64 {
+    r.below(2)
+}
+
+/// Few records, so that they do not suffice; now and then what others must give up first.
+fn tight(r: &mut Random) -> u64 {
+    match r.below(12) {
+        0 => 127 + r.below(3),
+        1 => r.one_of(&[256, 1023, 1024, 1025, u64::MAX]),
+        _ => r.below(7),
+    }
+}
+
+/// About what a nearly full pool has left, or has in use.
+fn about_rest(r: &mut Random) -> u64 {
+    if r.once_in(3) {
+        r.below(5)
+    } else {
+        1018 + r.below(8)
+    }
+}
+
 const NO: &[Preamble] = &[Preamble::None];
 const POOL: &[Preamble] = &[PREAMBLES[0], PREAMBLES[1], PREAMBLES[2], PREAMBLES[3], PREAMBLES[4], PREAMBLES[5]];
 const SLOTS: &[Preamble] = &[PREAMBLES[6], PREAMBLES[7], PREAMBLES[8], PREAMBLES[9], PREAMBLES[10], PREAMBLES[11]];
 
 #[rustfmt::skip]
-const SHAPES: [(&str, Shape); 12] = [
-    ("crowded records", Shape { letters: [5, 4, 1, 0, 0, 0, 1], host: few, guest: few, size: short, repeat: once, rights: every, compartment: first, lines: (3, 24), preambles: NO }),
-    ("crowded records and segments", Shape { letters: [3, 2, 1, 3, 1, 1, 1], host: few, guest: few, size: short, repeat: once, rights: plain, compartment: three, lines: (3, 24), preambles: NO }),
-    ("removes over gaps", Shape { letters: [4, 7, 0, 0, 0, 0, 1], host: some, guest: few, size: short, repeat: once, rights: plain, compartment: first, lines: (4, 20), preambles: NO }),
-    ("segments", Shape { letters: [1, 0, 0, 5, 2, 3, 1], host: some, guest: spread, size: short, repeat: once, rights: plain, compartment: first, lines: (4, 20), preambles: NO }),
-    ("equal hpa", Shape { letters: [1, 0, 0, 6, 2, 2, 1], host: stacked, guest: spread, size: short, repeat: once, rights: every, compartment: first, lines: (4, 20), preambles: NO }),
-    ("repeats", Shape { letters: [1, 0, 0, 5, 1, 4, 1], host: some, guest: some, size: short, repeat: often, rights: plain, compartment: first, lines: (4, 16), preambles: NO }),
-    ("near 2^64", Shape { letters: [3, 2, 1, 3, 1, 1, 1], host: top, guest: top, size: short, repeat: once, rights: plain, compartment: three, lines: (3, 20), preambles: NO }),
-    ("any numbers", Shape { letters: [3, 2, 1, 3, 1, 1, 1], host: ends, guest: ends, size: any_size, repeat: any_repeat, rights: every, compartment: eight, lines: (3, 20), preambles: NO }),
-    ("tails and middles", Shape { letters: [1, 0, 0, 6, 2, 2, 1], host: apart, guest: apart, size: longer, repeat: once, rights: plain, compartment: first, lines: (4, 24), preambles: NO }),
-    ("long", Shape { letters: [3, 2, 1, 3, 1, 1, 1], host: some, guest: spread, size: short, repeat: once, rights: plain, compartment: three, lines: (80, 160), preambles: NO }),
-    ("a nearly full pool", Shape { letters: [4, 5, 1, 0, 0, 0, 0], host: about_pool, guest: few, size: short, repeat: once, rights: plain, compartment: three, lines: (2, 8), preambles: POOL }),
-    ("all segments in use", Shape { letters: [1, 1, 0, 2, 4, 3, 1], host: about_segments, guest: about_guests, size: short, repeat: once, rights: plain, compartment: first, lines: (2, 10), preambles: SLOTS }),
+const SHAPES: [(&str, Shape); 13] = [
+    ("crowded records", Shape { letters: [5, 4, 1, 0, 0, 0, 1, 0], host: few, guest: few, size: short, repeat: once, rights: every, compartment: first, allowance: tight, lines: (3, 24), preambles: NO }),
+    ("crowded records and segments", Shape { letters: [3, 2, 1, 3, 1, 1, 1, 0], host: few, guest: few, size: short, repeat: once, rights: plain, compartment: three, allowance: tight, lines: (3, 24), preambles: NO }),
+    ("removes over gaps", Shape { letters: [4, 7, 0, 0, 0, 0, 1, 0], host: some, guest: few, size: short, repeat: once, rights: plain, compartment: first, allowance: tight, lines: (4, 20), preambles: NO }),
+    ("segments", Shape { letters: [1, 0, 0, 5, 2, 3, 1, 0], host: some, guest: spread, size: short, repeat: once, rights: plain, compartment: first, allowance: tight, lines: (4, 20), preambles: NO }),
+    ("equal hpa", Shape { letters: [1, 0, 0, 6, 2, 2, 1, 0], host: stacked, guest: spread, size: short, repeat: once, rights: every, compartment: first, allowance: tight, lines: (4, 20), preambles: NO }),
+    ("repeats", Shape { letters: [1, 0, 0, 5, 1, 4, 1, 0], host: some, guest: some, size: short, repeat: often, rights: plain, compartment: first, allowance: tight, lines: (4, 16), preambles: NO }),
+    ("near 2^64", Shape { letters: [3, 2, 1, 3, 1, 1, 1, 0], host: top, guest: top, size: short, repeat: once, rights: plain, compartment: three, allowance: tight, lines: (3, 20), preambles: NO }),
+    ("any numbers", Shape { letters: [3, 2, 1, 3, 1, 1, 1, 1], host: ends, guest: ends, size: any_size, repeat: any_repeat, rights: every, compartment: eight, allowance: ends, lines: (3, 20), preambles: NO }),
+    ("tails and middles", Shape { letters: [1, 0, 0, 6, 2, 2, 1, 0], host: apart, guest: apart, size: longer, repeat: once, rights: plain, compartment: first, allowance: tight, lines: (4, 24), preambles: NO }),
+    ("long", Shape { letters: [3, 2, 1, 3, 1, 1, 1, 0], host: some, guest: spread, size: short, repeat: once, rights: plain, compartment: three, allowance: tight, lines: (80, 160), preambles: NO }),
+    ("a nearly full pool", Shape { letters: [4, 5, 1, 0, 0, 0, 0, 2], host: about_pool, guest: few, size: short, repeat: once, rights: plain, compartment: two, allowance: about_rest, lines: (2, 12), preambles: POOL }),
+    ("all segments in use", Shape { letters: [1, 1, 0, 2, 4, 3, 1, 0], host: about_segments, guest: about_guests, size: short, repeat: once, rights: plain, compartment: first, allowance: tight, lines: (2, 10), preambles: SLOTS }),
+    ("small allowances", Shape { letters: [5, 4, 1, 1, 0, 0, 1, 4], host: few, guest: few, size: short, repeat: once, rights: plain, compartment: three, allowance: tight, lines: (4, 32), preambles: NO }),
 ];
 
 impl Shape {
@@ -250,6 +285,7 @@ impl Shape {
         let kind = self.kind(r);
         let compartment = (self.compartment)(r);
         let numbers = match kind {
+            Kind::Allow => vec![(self.allowance)(r)],
             Kind::Add | Kind::Remove => {
                 let (start, end) = self.range(r);
                 vec![start, end, (self.rights)(r)]
@@ -274,7 +310,7 @@ fn damaged(line: &[u8], r: &mut Random) -> Vec<u8> {
         2 => line.insert(at, b' '),
         3 => line[at] = b'0',
         4 => line[at] = r.next() as u8,
-        5 => line[0] = r.one_of(b"ADCMUGPadcmugpXOR \r\t"),
+        5 => line[0] = r.one_of(b"ADCMUGPSadcmugpsXOR \r\t"),
         6 => line.push(b'\r'),
         7 => line[at] = r.one_of(b"-+,.x/:"),
         8 => {
@@ -298,7 +334,9 @@ pub fn script(seed: u64, i: u64) -> (&'static str, Preamble, Script) {
     let mut r = Random(seed ^ i.wrapping_mul(0xD6E8_FEB8_6659_FD93));
     r.next();
     // long preambles cost as much as hundreds of other scripts
-    let at = if i % 400 == 199 {
+    let at = if i % 10 == 4 {
+        12
+    } else if i % 400 == 199 {
         10
     } else if i % 50 == 49 {
         11
@@ -335,9 +373,10 @@ fn full_counts() -> Script {
     Script { known, ..script_of(&calls) }
 }
 
-/// A pool that is full but for one record, and calls that need one or two.
+/// A pool that is full but for one record, which is compartment 1's, and calls that need one or two.
 pub fn full_pool() -> Script {
     let mut calls = Preamble::Nested(512).calls();
+    calls.extend([allow(0, 1023), allow(1, 1)]);
     let known = calls.len();
     let behind =
         [(Kind::Add, [600, 700]), (Kind::Add, [5000, 5001]), (Kind::Add, [6000, 6001]), (Kind::Remove, [600, 700])];
@@ -370,9 +409,25 @@ fn refusals() -> Script {
         call(Kind::Map, 3, &[2, 3, 1, 1]),
     ];
     calls.extend((0..65).map(|i| call(Kind::Map, 4, &[0, 1 + i, 1, 1])));
+    calls.extend([allow(5, 129), allow(5, u64::MAX), allow(8, 0), allow(0, 1), allow(0, 2)]);
     let mut script = script_of(&calls);
     script.lines.push(b"X".to_vec());
     script
+}
+
+/// 5 by an allowance, with the pool all but free: an add, a remove for its first cut and one for its second, and one that would
+/// come to a count of 0 behind it. Then the same with a record more.
+fn small_allowance() -> Script {
+    let call = |kind, numbers: &[u64]| Call::new(kind, 0, numbers);
+    let mut calls = vec![allow(0, 2), call(Kind::Add, &[0, 10, 1]), call(Kind::Add, &[20, 30, 1])];
+    for more in 2..4 {
+        calls.push(allow(0, more));
+        calls.push(call(Kind::Remove, &[5, 10, 2]));
+        calls.push(call(Kind::Remove, &[0, 5, 1]));
+        calls.push(call(Kind::Add, &[40, 50, 1]));
+        calls.push(call(Kind::Remove, &[22, 30, 1]));
+    }
+    script_of(&calls)
 }
 
 /// Every reason to name an unmap. Then 64 segments, of which one is cut in two and one goes; and 63, of which two are cut in two.
@@ -405,16 +460,17 @@ fn one_and_two() -> [Script; 2] {
     [script_of(&[map(&[0, 1, 1, 1])]), script_of(&[map(&[0, 2, 1, 1]), map(&[1, 0, 1, 1])])]
 }
 
-/// Scripts that reach every answer, every reason to name an unmap and every departure of `overlaps`, whatever the seed.
-pub fn fixed() -> [Script; 6] {
+/// Scripts that reach every answer, every reason to name a call and every departure of `overlaps`, whatever the seed.
+pub fn fixed() -> [Script; 7] {
     let [one, two] = one_and_two();
-    [refusals(), full_pool(), full_counts(), named_unmaps(), one, two]
+    [refusals(), full_pool(), full_counts(), small_allowance(), named_unmaps(), one, two]
 }
 
-/// The calls of the small universe: addresses 0 to 3.
+/// The calls of the small universe: addresses 0 to 3, and with the calls on records allowances of 0 to 3.
 pub fn small_calls(regions: bool) -> Vec<Call> {
     let mut calls = Vec::new();
     if regions {
+        calls.extend((0..4).map(|allowance| allow(0, allowance)));
         for start in 0..3 {
             for end in start + 1..4 {
                 for rights in [1, 3] {

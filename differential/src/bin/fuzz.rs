@@ -14,7 +14,7 @@ fn bytes(r: &mut Random, i: u64) -> Vec<u8> {
     let script = |r: &mut Random| shapes::script(r.next(), 1 + r.below(38)).2.text();
     match i % 4 {
         0 => (0..r.below(600)).map(|_| r.next() as u8).collect(),
-        1 => (0..r.below(2000)).map(|_| r.one_of(b"ADCMUGP    0123456789\n\n\r\0")).collect(),
+        1 => (0..r.below(2000)).map(|_| r.one_of(b"ADCMUGPS    0123456789\n\n\r\0")).collect(),
         2 => {
             let mut text = script(r);
             for _ in 0..r.between(1, 12) {
