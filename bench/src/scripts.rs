@@ -1,6 +1,7 @@
 //! The scripts that are measured. Every call of them is accepted, on both sides.
 use crate::{Case, Work};
 use differential::line::{self, Call, Kind};
+use differential::shapes::whole_pool;
 
 fn text(calls: &[Call]) -> Vec<u8> {
     line::text(&calls.iter().map(Call::line).collect::<Vec<_>>())
@@ -14,9 +15,10 @@ fn call(kind: Kind, compartment: u64, numbers: &[u64]) -> Call {
     Call::new(kind, compartment, numbers)
 }
 
-/// So many records that do not touch.
+/// So many records that do not touch. The compartment has the whole pool, which the original does not ask about.
 pub fn records(many: u64) -> Vec<Call> {
-    (0..many).map(|i| call(Kind::Add, 0, &[4096 * i, 4096 * i + 2048, 3])).collect()
+    let record = |i| call(Kind::Add, 0, &[4096 * i, 4096 * i + 2048, 3]);
+    whole_pool().into_iter().chain((0..many).map(record)).collect()
 }
 
 /// So many segments.
