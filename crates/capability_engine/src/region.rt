@@ -688,7 +688,7 @@ pub(crate) struct Changed {
     pub answer: Answer,
 }
 
-// What a walk finds out for an add. left is one more than the slots that are free beside the gaps that were met.
+// What a walk finds out for an add. left is one more than the records that may still be taken beside those for the gaps met.
 pub(crate) struct AddAsk {
     pub raisable: bool,
     pub cuts_start: bool,
@@ -699,7 +699,7 @@ pub(crate) struct AddAsk {
     pub fresh: bool,
 }
 
-// What a walk finds out for a remove. lack is one more than the records in use beside those that go first.
+// What a walk finds out for a remove. lack is 1,025 less the records that may still be taken, and less those that go first.
 pub(crate) struct RemoveAsk {
     pub begun: bool,
     pub last: HostAddr,
@@ -1013,7 +1013,7 @@ fn in_range(start: HostAddr, end: HostAddr, rights: u64, answer: Answer) -> Answ
     pick(rights < 32, Refusal::InvalidMemOps, third)
 }
 
-// The whole answer of an add to the list from head, with room free slots.
+// The whole answer of an add to the list from head, which may take room records more.
 pub(crate) fn ask_add(
     next: &[usize],
     words: &[u64],
