@@ -385,7 +385,7 @@ module _ (nx ws : List ℕ) (fl : Heap) (t : RegionTracker) (al : Allotted nx ws
   pub counts-same : Counts t nx ws t
   counts-same = record { allowance = refl; many = al .many }
 
-  pub counts-few : (before : ℕ) → before ≡ length (freeOf fl) → t .count + before < 2 ^ 64
+  pub counts-few : (before : ℕ) → before ≡ length (freeOf fl) → t .count + before < 2 ^ 32
   counts-few before eb = omega (arith, al .many, few-in nx ws fl (t .head) (al .tracked))
 
   -- as many records more as slots are no longer free

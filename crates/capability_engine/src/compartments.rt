@@ -105,7 +105,7 @@ fn allowed(trackers: [RegionTracker; 8]) -> usize
     let mut i = 0;
     while i < 8 {
         let tracker = trackers[i];
-        n += tracker.allowance;
+        n += tracker.allowance as usize;
         i += 1;
     }
     n
@@ -118,7 +118,7 @@ pub(crate) fn on_allow(trackers: [RegionTracker; 8], k: usize, allowance: u64) -
 {
     let all = allowed(trackers);
     let tracker = trackers[k];
-    let others = all - tracker.allowance;
+    let others = all - tracker.allowance as usize;
     tracker.allow(others, allowance)
 }
 

@@ -657,11 +657,12 @@ fn remove_between(
     left
 }
 
-// A compartment's list: its first slot, 1,024 for none; how many records it has, and how many it may have.
+// A compartment's list: its first slot, 1,024 for none; how many records it has, and how many it may have. A tracker is two
+// words, so that carrying it costs an add no more than its first slot alone did.
 pub struct RegionTracker {
     pub head: usize,
-    pub count: usize,
-    pub allowance: usize,
+    pub count: u32,
+    pub allowance: u32,
 }
 
 // A cursor over the permissions: the slot of the record of the next one, 1,024 at the end.
@@ -1100,17 +1101,17 @@ impl RegionTracker {
         requires { ⌜ self .count ≤ self .allowance ⌝ }
         ensures { λ r. ⌜ r ≡ self .allowance - self .count ⌝ }
     {
-        self.allowance - self.count
+        (self.allowance - self.count) as usize
     }
 
     // The list has another first slot, and as many records more as the pool has free slots fewer.
     fn recounted(self, head: usize, before: usize, after: usize) -> RegionTracker
-        requires { ⌜ (self .count + before < 2 ^ 64) × (after ≤ self .count + before) ⌝ }
+        requires { ⌜ (self .count + before < 2 ^ 32) × (after ≤ self .count + before) ⌝ }
         ensures { λ r. ⌜ r ≡ record { head = head; count = self .count + before - after; allowance = self .allowance } ⌝ }
     {
         RegionTracker {
             head,
-            count: self.count + before - after,
+            count: (self.count as usize + before - after) as u32,
             allowance: self.allowance,
         }
     }
@@ -1139,7 +1140,7 @@ impl RegionTracker {
             tracker: RegionTracker {
                 head,
                 count,
-                allowance: allowance as usize,
+                allowance: allowance as u32,
             },
             answer: Answer::Accepted(0),
         }

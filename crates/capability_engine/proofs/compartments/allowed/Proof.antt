@@ -23,6 +23,9 @@ mul-tracker c = search needs
 array-copy-out-tracker : tie.Need-array-copy-out-tracker Inv-loop μ-loop
 array-copy-out-tracker c = search needs
 
+cast-n : tie.Need-cast-n Inv-loop μ-loop
+cast-n c = search needs
+
 add-n : tie.Need-add-n Inv-loop μ-loop
 add-n c = record { fits = sum-fits (c .before .before .before .before .args .t1) (c .before .before .before .before .pre .0) _ _ (c .before .before .before .loop .inv) (c .before .before .loop-test .taken) _ (c .before .before .before .before .pre .1) }
 
@@ -47,6 +50,7 @@ allowed-spec =
     loop-holds
     mul-tracker
     array-copy-out-tracker
+    cast-n
     add-n
     add-i
     loop-less

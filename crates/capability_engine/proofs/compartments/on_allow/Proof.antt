@@ -14,6 +14,9 @@ mul-tracker c = record { fits = omega (arith, c .before .pre .0) }
 array-copy-out-tracker : tie.Need-array-copy-out-tracker
 array-copy-out-tracker c = c .before .pre .0
 
+cast-others : tie.Need-cast-others
+cast-others c = search needs
+
 sub-others : tie.Need-sub-others
 sub-others c = allowance-few (c .before .before .before .args .t1) (c .before .before .before .args .k) _ _ (c .before .before .before .pre .0) (c .before .before .before .pre .1) (c .before .before .allowed .ensures)
 
@@ -30,6 +33,7 @@ on-allow-spec =
     allowed-requires
     mul-tracker
     array-copy-out-tracker
+    cast-others
     sub-others
     allow-requires
     returns)
