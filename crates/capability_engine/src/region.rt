@@ -658,7 +658,7 @@ fn remove_between(
 }
 
 // A compartment's list: its first slot, 1,024 for none; how many records it has, and how many it may have. A tracker is two
-// words, so that carrying it costs an add no more than its first slot alone did.
+// words: with three, an add took longer.
 pub struct RegionTracker {
     pub head: usize,
     pub count: u32,
