@@ -4,11 +4,10 @@ use native.Mathlib.Omega.{arith}
 use mathlib.Core.Path.{_≡_, refl}
 use mathlib.Core.Bool.{Bool, true, false}
 use borrow.Author.Tests.{lt-ltb, le-ltb}
-use Rattle.definitions.specs.Tests.{_=?_, _≤?_, fits, if_then_else_}
-use Rattle.definitions.specs.Rights.{asCounters}
+use Rattle.definitions.specs.Tests.{_≤?_, fits, if_then_else_}
+use Rattle.definitions.specs.Rights.{Right, named, countOf, countersOf, asCounters}
 use Rattle.definitions.specs.Values.{nothing, raise, lower}
 use Rattle.definitions.specs.Regions.{region}
-use Rattle.definitions.specs.declared.region.Values.{Values}
 use Rattle.definitions.specs.declared.region.Region.{Region}
 use Rattle.definitions.specs.declared.region.Counters.{Counters}
 use Rattle.counts.specs.Capped.{capped, cappedCounts}
@@ -19,9 +18,6 @@ plusOf a b = capped (a + b)
 
 abbrev pub leftOf : ℕ → ℕ → ℕ → ℕ
 leftOf holders count by = if holders ≤? 1 then 0 else count - by
-
-abbrev pub markOf : ℕ → ℕ → ℕ → ℕ
-markOf holders mark name = if holders =? 0 then name else mark
 
 pub full : (a b : ℕ) → 18446744073709551615 - a < b → 18446744073709551615 ≡ capped (a + b)
 unfolding capped fits
@@ -48,43 +44,28 @@ six r n a b c d u = record {
 
 pub raised-is : (r : Region) (rights : ℕ) (by : Counters) → by ≡ asCounters (record { 0 = rights }) → (n a b c d u : ℕ) → n ≡ plusOf (r .values .refcount) 1
     → a ≡ plusOf (r .values .counters .read) (by .read) → b ≡ plusOf (r .values .counters .write) (by .write) → c ≡ plusOf (r .values .counters .exec) (by .exec) → d ≡ plusOf (r .values .counters .supervisor) (by .supervisor)
-    → u ≡ markOf (r .values .refcount) (r .values .counters .uncacheable) (by .uncacheable)
+    → u ≡ plusOf (r .values .counters .uncacheable) (by .uncacheable)
     → six r n a b c d u ≡ raised rights r
 unfolding region raise asCounters cappedCounts
 raised-is r rights by e n a b c d u en ea eb ec ed eu = rw (en, ea, eb, ec, ed, eu, e)
 
-none-off : (n : ℕ) → n - 0 ≡ n
-none-off n = omega arith
-
-last-or-not : (t : Bool) (v : Values) (by : Counters)
-    → record {
-      refcount = if t then 0 else v .refcount - 1;
-      counters = record {
-        read = if t then 0 else v .counters .read - by .read;
-        write = if t then 0 else v .counters .write - by .write;
-        exec = if t then 0 else v .counters .exec - by .exec;
-        supervisor = if t then 0 else v .counters .supervisor - by .supervisor;
-        uncacheable = if t then 0 else v .counters .uncacheable - 0;
-      };
-    } ≡ (if t then nothing else record {
-      refcount = v .refcount - 1;
-      counters = record {
-        read = v .counters .read - by .read;
-        write = v .counters .write - by .write;
-        exec = v .counters .exec - by .exec;
-        supervisor = v .counters .supervisor - by .supervisor;
-        uncacheable = v .counters .uncacheable;
-      };
-    })
+last-or-not : (t : Bool) (n m : ℕ) (f g : Right → ℕ)
+    → record { refcount = if t then 0 else n - m; counters = countersOf (λ i. if t then 0 else f i - g i) }
+    ≡ (if t then nothing else record { refcount = n - m; counters = countersOf (λ i. f i - g i) })
 unfolding nothing
-last-or-not true v by = refl
-last-or-not false v by = rw (none-off (v .counters .uncacheable))
+last-or-not true n m f g = refl
+last-or-not false n m f g = refl
 
 pub lowered-is : (r : Region) (rights : ℕ) (by : Counters) → by ≡ asCounters (record { 0 = rights }) → (n a b c d u : ℕ) → n ≡ leftOf (r .values .refcount) (r .values .refcount) 1
     → a ≡ leftOf (r .values .refcount) (r .values .counters .read) (by .read) → b ≡ leftOf (r .values .refcount) (r .values .counters .write) (by .write)
     → c ≡ leftOf (r .values .refcount) (r .values .counters .exec) (by .exec) → d ≡ leftOf (r .values .refcount) (r .values .counters .supervisor) (by .supervisor)
-    → u ≡ leftOf (r .values .refcount) (r .values .counters .uncacheable) 0
+    → u ≡ leftOf (r .values .refcount) (r .values .counters .uncacheable) (by .uncacheable)
     → six r n a b c d u ≡ lowered rights r
 unfolding region lower asCounters
 lowered-is r rights by e n a b c d u en ea eb ec ed eu =
-    rw (en, ea, eb, ec, ed, eu, e) (λ i. record { start = r .start; end = r .end; values = last-or-not (r .values .refcount ≤? 1) (r .values) (asCounters (record { 0 = rights })) i })
+    rw (en, ea, eb, ec, ed, eu, e)
+    (λ i. record {
+      start = r .start;
+      end = r .end;
+      values = last-or-not (r .values .refcount ≤? 1) (r .values .refcount) 1 (λ t. countOf t (r .values)) (λ t. named t rights) i;
+    })

@@ -3,7 +3,7 @@ use definitions::MemOps;
 use definitions::Region;
 ghost use mathlib.Core.Path.{_≡_};
 ghost use Prim.Native.Nat.{_+_, _-_};
-ghost use Rattle.definitions.specs.Tests.{if_then_else_, _=?_, _≤?_};
+ghost use Rattle.definitions.specs.Tests.{if_then_else_, _≤?_};
 ghost use Rattle.definitions.specs.Values.{raise, lower};
 ghost use Rattle.definitions.specs.Regions.{region};
 ghost use Rattle.counts.specs.Capped.{capped, cappedCounts};
@@ -32,13 +32,6 @@ fn left(holders: u64, count: u64, by: u64) -> u64
     count - by
 }
 
-// The mark is set only where there was no holder.
-fn marked(holders: u64, mark: u64, named: u64) -> u64
-    ensures { λ m. ⌜ m ≡ (if holders =? 0 then named else mark) ⌝ }
-{
-    if holders == 0 { named } else { mark }
-}
-
 // One holder more, and one more of each count that the rights name: the Rust's increase_refcount and increase_ops.
 fn increase_refcount(r: &mut Region, rights: u64)
     ensures { λ _. ⌜ now (r .exit) ≡ region (now (r .entry) .start) (now (r .entry) .end) (cappedCounts (raise rights (now (r .entry) .values))) ⌝ }
@@ -50,7 +43,7 @@ fn increase_refcount(r: &mut Region, rights: u64)
     r.values.counters.write = plus(r.values.counters.write, by.write);
     r.values.counters.exec = plus(r.values.counters.exec, by.exec);
     r.values.counters.supervisor = plus(r.values.counters.supervisor, by.supervisor);
-    r.values.counters.uncacheable = marked(holders, r.values.counters.uncacheable, by.uncacheable);
+    r.values.counters.uncacheable = plus(r.values.counters.uncacheable, by.uncacheable);
 }
 
 // One holder less, and one less of each count that the rights name, or nothing where no holder is left: the Rust's
@@ -65,7 +58,7 @@ fn decrease_refcount(r: &mut Region, rights: u64)
     r.values.counters.write = left(holders, r.values.counters.write, by.write);
     r.values.counters.exec = left(holders, r.values.counters.exec, by.exec);
     r.values.counters.supervisor = left(holders, r.values.counters.supervisor, by.supervisor);
-    r.values.counters.uncacheable = left(holders, r.values.counters.uncacheable, 0);
+    r.values.counters.uncacheable = left(holders, r.values.counters.uncacheable, by.uncacheable);
 }
 
 // The region with its counts raised.

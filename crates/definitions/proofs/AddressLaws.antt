@@ -7,7 +7,7 @@ use lib.ListN.{length}
 use native.Mathlib.Omega.{arith}
 use borrow.Author.Tests.{ltb-true, lt-ltb, le-leb, lt-leb, eqb-true, eqb-false, ne-eqb}
 use Rattle.definitions.specs.Tests.{_<?_, _=?_, bit, host, all, any}
-use Rattle.definitions.specs.Rights.{READ, WRITE, EXEC, SUPER, named}
+use Rattle.definitions.specs.Rights.{RIGHTS, named, countOf}
 use Rattle.definitions.specs.Values.{nothing, held, raise, lower}
 use Rattle.definitions.specs.Regions.{has, meets, regions, addressesFrom, addresses, someCount, addChange, removeChange, unheldIn}
 use Rattle.definitions.specs.Questions.{everyNamed, canRaise}
@@ -15,6 +15,7 @@ use Rattle.definitions.specs.declared.addr.HostAddr.{HostAddr}
 use Rattle.definitions.specs.declared.region.Values.{Values}
 use Rattle.definitions.specs.declared.region.Region.{Region}
 use Rattle.definitions.proofs.Bools.{Where, inn, low, high, where?, in-true, in-high, and-true, and-false, or-true}
+use Rattle.definitions.proofs.RightLaws.{any-fails, count-made, named-bit}
 use Rattle.definitions.proofs.Lists.{valuesAt, Ordered, AllHeld, Runs, Blank}
 use Rattle.definitions.proofs.RunLaws.{host-eq, held-nothing, value-at-start, blank-table, regions-runs, regions-values}
 use Rattle.definitions.proofs.ChangeLaws.{raise-held}
@@ -225,10 +226,6 @@ module _ (a e : HostAddr) (f : HostAddr → Values) (l : a .0 < e .0) (h : e .0 
 
 -- ---- the questions and the marks
 
-named-small : (right rights : ℕ) → named right rights < 2
-unfolding named
-named-small right rights = omega arith
-
 -- one count, of 0 or 1 named: it becomes 1 from 0, or 0 from 1
 rises : (c n : ℕ) → n < 2 → ((c =? 0) && (c + n =? 1)) ≡ not ((n =? 0) || (0 <? c))
 rises zero zero l = refl
@@ -243,12 +240,6 @@ falls (suc zero) (suc zero) l = refl
 falls (suc zero) (suc (suc n)) l = absurd (omega arith)
 falls (suc (suc c)) n l = simp (ne-eqb (suc (suc c)) 1 (omega arith), or-true)
 
-four : (a b c d : Bool) → (not a || not b || not c || not d) ≡ not (a && b && c && d)
-four true true true d = refl
-four true true false d = refl
-four true false c d = refl
-four false b c d = refl
-
 -- does an add make a 1 of a 0, a remove a 0 of a 1?
 abbrev begins : ℕ → Values → Bool
 begins k v = someCount (λ b c. (b =? 0) && (c =? 1)) v (raise k v)
@@ -261,15 +252,9 @@ add-test : (k : ℕ) (v : Values) → held v ≡ true
     → begins k v ≡ not (everyNamed (λ n. 0 <? n) k v)
 unfolding someCount everyNamed raise held
 add-test k v h =
-    simp (
-      ne-eqb (v .refcount) 0 (omega (arith, ltb-true 0 (v .refcount) h)),
-      rises (v .counters .read) (named READ k) (named-small READ k),
-      rises (v .counters .write) (named WRITE k) (named-small WRITE k),
-      rises (v .counters .exec) (named EXEC k) (named-small EXEC k),
-      rises (v .counters .supervisor) (named SUPER k) (named-small SUPER k),
-    )
-    (four ((named READ k =? 0) || (0 <? v .counters .read)) ((named WRITE k =? 0) || (0 <? v .counters .write))
-    ((named EXEC k =? 0) || (0 <? v .counters .exec)) ((named SUPER k =? 0) || (0 <? v .counters .supervisor)))
+    rw (ne-eqb (v .refcount) 0 (omega (arith, ltb-true 0 (v .refcount) h)))
+    (any-fails _ (λ t. (named t k =? 0) || (0 <? countOf t v))
+    (λ t. rw (count-made (v .refcount + 1) (λ t. countOf t v + named t k) t) (rises (countOf t v) (named t k) (named-bit t k))) RIGHTS)
 
 remove-test : (k : ℕ) (v : Values) → held v ≡ true
     → ceases k v ≡ ((v .refcount =? 1) || not (everyNamed (λ n. not (n =? 1)) k v))
@@ -281,20 +266,13 @@ remove-test k v h = go (v .refcount =? 1) refl
     go true d = simp (d, le-leb (v .refcount) 1 (omega (arith, eqb-true (v .refcount) 1 d)))
     go false d =
         let n : v .refcount ≡ 1 → ⊥ = eqb-false (v .refcount) 1 d in
-        simp (
-          d,
-          lt-leb (v .refcount) 1 (omega (arith, ltb-true 0 (v .refcount) h)),
-          falls (v .counters .read) (named READ k) (named-small READ k),
-          falls (v .counters .write) (named WRITE k) (named-small WRITE k),
-          falls (v .counters .exec) (named EXEC k) (named-small EXEC k),
-          falls (v .counters .supervisor) (named SUPER k) (named-small SUPER k),
-        )
-        (four ((named READ k =? 0) || not (v .counters .read =? 1)) ((named WRITE k =? 0) || not (v .counters .write =? 1))
-        ((named EXEC k =? 0) || not (v .counters .exec =? 1)) ((named SUPER k =? 0) || not (v .counters .supervisor =? 1)))
+        rw (d, lt-leb (v .refcount) 1 (omega (arith, ltb-true 0 (v .refcount) h)))
+        (any-fails _ (λ t. (named t k =? 0) || not (countOf t v =? 1))
+        (λ t. rw (count-made (v .refcount - 1) (λ t. countOf t v - named t k) t) (falls (countOf t v) (named t k) (named-bit t k))) RIGHTS)
 
 -- what an unheld address says
 raise-nothing : (k : ℕ) → ((nothing .refcount <? 65535) && everyNamed (λ n. n <? 65535) k nothing) ≡ true
-unfolding everyNamed nothing
+unfolding everyNamed nothing RIGHTS
 raise-nothing k = simp or-true
 
 add-nothing : (k : ℕ) → begins k nothing ≡ true
@@ -302,7 +280,7 @@ unfolding someCount raise nothing
 add-nothing k = refl
 
 remove-nothing : (k : ℕ) → ceases k nothing ≡ false
-unfolding someCount lower nothing
+unfolding someCount lower nothing RIGHTS
 remove-nothing k = refl
 
 module _ (a e : HostAddr) (k : ℕ) (f : HostAddr → Values) (l : a .0 < e .0) (h : e .0 ≤ 2 ^ 64) (b : Blank f) where

@@ -9,7 +9,7 @@ use borrow.Author.Tests.{le-leb, lt-leb, lt-ltb, le-ltb, ne-eqb, eq-eqb, leb-tru
 use lib.ListN.{length, getD, replicate}
 use Rattle.definitions.specs.Tests
 use Rattle.definitions.specs.Tests.{_<?_, _≤?_, _=?_, inside, host, guest, hostUp, guestUp, fits, all, any}
-use Rattle.definitions.specs.Rights.{named}
+use Rattle.definitions.specs.Rights.{RIGHTS, named}
 use Rattle.definitions.specs.Values.{nothing, held, raise, lower, rightsOf}
 use Rattle.definitions.specs.Regions.{region, regions, within, meets, same, joins, join, joined, splits, cut, freed}
 use Rattle.definitions.specs.Segments.{segment, hostEnd, spanEnd, inOrder, place, overlaps, isIdentity, mapped, front, rest, cutOut, hostTouched, hostParts, unmapped, touched, spanWhole, spanInside, spanParts, placeAll, unmappedGpa}
@@ -210,18 +210,18 @@ evens-unsplit y x (suc n) = go (x <? y .0) refl (evens-unsplit y (x + 2) n)
     go false d ih = simp d ih
 
 evens-raise : (a e : HostAddr) (x n : ℕ) → canRaiseOn a e 1 (evens x n) ≡ true
-unfolding canRaiseOn evens region everyNamed named raise nothing
+unfolding canRaiseOn evens region everyNamed RIGHTS named raise nothing
 evens-raise a e x zero = refl
 evens-raise a e x (suc n) = simp or-true (evens-raise a e (x + 2) n)
 
 evens-stream : (x n : ℕ) → sameStream (singleMappings x n) (mapList identity (evens x n)) ≡ true
-unfolding sameStream singleMappings evens identity region host guest rightsOf raise nothing named
+unfolding sameStream singleMappings evens identity region host guest rightsOf RIGHTS raise nothing named
 evens-stream x zero = refl
 evens-stream x (suc n) =
     let w : x + 1 - x ≡ 1 = omega arith in simp (eq-eqb x x refl, w) (evens-stream (x + 2) n)
 
 evens-shown : (x n : ℕ) → sameTable (singleRows x n) (evens x n) ≡ true
-unfolding sameTable singleRows evens region host rightsOf raise nothing named
+unfolding sameTable singleRows evens region host rightsOf RIGHTS raise nothing named
 evens-shown x zero = refl
 evens-shown x (suc n) = simp (eq-eqb x x refl, eq-eqb (x + 1) (x + 1) refl) (evens-shown (x + 2) n)
 
@@ -271,7 +271,7 @@ fit-all (c ∷ cs) h = let p = both (fitsCall c) (all fitsCall cs) h in (fits-ca
 
 -- all that the rows compute with, named once
 opened : Unit {0}
-unfolding inside host guest hostUp guestUp fits named nothing held raise lower rightsOf region within meets same joins join joined splits cut freed segment hostEnd spanEnd inOrder place overlaps isIdentity mapped front rest cutOut hostTouched hostParts unmapped touched spanWhole spanInside spanParts placeAll unmappedGpa empty compartmentOf withSegments ask everyNamed begun lastEnd cutsFit canLower ranged onOverlaps onMap onUnmap onUnmapGpa row sameTable sameList sameStream two storedOne smallRows allowanceRows sharedPart segmentYields identity merge below above without leftOver streamOn gap fill change peak added removed hole gaps noTable canRaiseOn addChangeOn newRecordsOn removeChangeOn addOn removeOn allowOn answerOn leaves together others allowed startOn asksOn nextOn afterOn holdsAfter fitsCall
+unfolding inside host guest hostUp guestUp fits RIGHTS named nothing held raise lower rightsOf region within meets same joins join joined splits cut freed segment hostEnd spanEnd inOrder place overlaps isIdentity mapped front rest cutOut hostTouched hostParts unmapped touched spanWhole spanInside spanParts placeAll unmappedGpa empty compartmentOf withSegments ask everyNamed begun lastEnd cutsFit canLower ranged onOverlaps onMap onUnmap onUnmapGpa row sameTable sameList sameStream two storedOne smallRows allowanceRows sharedPart segmentYields identity merge below above without leftOver streamOn gap fill change peak added removed hole gaps noTable canRaiseOn addChangeOn newRecordsOn removeChangeOn addOn removeOn allowOn answerOn leaves together others allowed startOn asksOn nextOn afterOn holdsAfter fitsCall
 opened = tt
 
 -- a row that fits, and holds as computed on tables

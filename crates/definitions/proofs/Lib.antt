@@ -1,4 +1,5 @@
 pub mod Bools
+pub mod RightLaws
 pub mod Methods
 pub mod Lists
 pub mod RegionLaws
@@ -21,6 +22,7 @@ pub mod Stored
 pub mod Sixteen
 pub mod Unmaps
 pub mod Pool
+pub mod TallyLaws
 pub mod Demand
 pub mod Tables
 pub mod TableLaws

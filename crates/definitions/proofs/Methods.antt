@@ -6,17 +6,14 @@ use native.Mathlib.Omega.{arith}
 use native.Mathlib.Decide.{ℕ-discrete}
 use borrow.Author.Tests.{eq-eqb, ne-eqb, lt-ltb, le-ltb}
 use Rattle.definitions.specs.Tests.{_=?_, _<?_, bit}
-use Rattle.definitions.specs.Rights.{READ, WRITE, EXEC, named, isValid, asCounters}
+use Rattle.definitions.specs.Rights.{READ, WRITE, EXEC, RIGHTS, named, isValid, asCounters}
 use Rattle.definitions.specs.declared.region.MemOps.{MemOps}
 use Rattle.definitions.specs.Values.{rightsOf}
 use Rattle.definitions.specs.Regions.{same}
 use Rattle.definitions.specs.declared.region.Counters.{Counters}
 use Rattle.definitions.specs.declared.region.Values.{Values}
 use Rattle.definitions.proofs.Bools.{and-false, and-true}
-
-pub named-bit : (right rights : ℕ) → named right rights < 2
-unfolding named
-named-bit right rights = omega arith
+use Rattle.definitions.proofs.RightLaws.{named-bit}
 
 -- a number below 2 that is not 1 is 0
 pub is-zero : (n : ℕ) → n < 2 → (n ≡ 1 → ⊥) → n ≡ 0
@@ -66,22 +63,26 @@ flag-none flag count e = (simp (le-ltb 0 count (omega arith)) (omega arith), ome
 pub flag-some : (flag count : ℕ) → (count ≡ 0 → ⊥) → (flag ≡ flag * bit (0 <? count)) × (flag ≤ flag)
 flag-some flag count e = (simp (lt-ltb 0 count (omega arith)) (omega arith), omega arith)
 
--- the sum of the five flags
+-- the sum of the flags
 pub ops-are : (v : Values) (a b c d e : ℕ) → a ≡ 1 * bit (0 <? v .counters .read) → b ≡ 2 * bit (0 <? v .counters .write)
     → c ≡ 4 * bit (0 <? v .counters .exec) → d ≡ 8 * bit (0 <? v .counters .supervisor)
     → e ≡ 16 * bit (0 <? v .counters .uncacheable) → _≡_ {A = MemOps} (record { 0 = a + b + c + d + e }) (rightsOf v)
-unfolding rightsOf
-ops-are v a b c d e p q r s t = λ i. record { 0 = p i + q i + r i + s i + t i }
+unfolding rightsOf RIGHTS
+ops-are v a b c d e p q r s t = λ i. record { 0 = sum i }
+  where
+    sum : a + b + c + d + e ≡ rightsOf v .0
+    sum = omega arith
 
--- where five of the six are equal, the sixth decides
+-- where all but the last are equal, the last decides
 pub same-last : (v w : Values) → v .refcount ≡ w .refcount → v .counters .read ≡ w .counters .read
     → v .counters .write ≡ w .counters .write → v .counters .exec ≡ w .counters .exec
     → v .counters .supervisor ≡ w .counters .supervisor → (v .counters .uncacheable =? w .counters .uncacheable) ≡ same v w
-unfolding same
-same-last v w p q r s t = rw (
+unfolding same RIGHTS
+same-last v w p q r s t = simp (
   eq-eqb (v .refcount) (w .refcount) p,
   eq-eqb (v .counters .read) (w .counters .read) q,
   eq-eqb (v .counters .write) (w .counters .write) r,
   eq-eqb (v .counters .exec) (w .counters .exec) s,
   eq-eqb (v .counters .supervisor) (w .counters .supervisor) t,
+  and-true,
 )

@@ -10,6 +10,7 @@ use Rattle.definitions.specs.Tests.{_<?_, _≤?_, _=?_, if_then_else_, i
 use Rattle.definitions.proofs.Bools.{Where, inn, low, high, where?, in-true, in-low, in-high, and-false, or-true}
 use Rattle.definitions.specs.Values.{nothing, raise}
 use Rattle.definitions.specs.Regions.{region, has, within, same, joins, join, joined, splits, cut}
+use Rattle.definitions.proofs.RightLaws.{same-eq}
 use Rattle.definitions.proofs.Lists.{valuesAt, gap, fill, change, peak, added, Ordered}
 use Rattle.definitions.specs.declared.addr.HostAddr.{HostAddr}
 use Rattle.definitions.specs.declared.region.Values.{Values}
@@ -276,32 +277,6 @@ change-ordered f a e lo (r ∷ rs) o = go (within a e r) refl (change-ordered f 
     go : (c : Bool) → within a e r ≡ c → Ordered (r .end .0) (change f a e rs) → Ordered lo (change f a e (r ∷ rs))
     go true n ih = simp n (o .0, o .1, ih)
     go false n ih = simp n (o .0, o .1, ih)
-
-six : (a b c d e f : Bool) → (a && b && c && d && e && f) ≡ true
-    → (a ≡ true) × (b ≡ true) × (c ≡ true) × (d ≡ true) × (e ≡ true) × (f ≡ true)
-six true true true true true true h = (refl, refl, refl, refl, refl, refl)
-six true true true true true false h = absurd (true≢false (sym h))
-six true true true true false f h = absurd (true≢false (sym h))
-six true true true false e f h = absurd (true≢false (sym h))
-six true true false d e f h = absurd (true≢false (sym h))
-six true false c d e f h = absurd (true≢false (sym h))
-six false b c d e f h = absurd (true≢false (sym h))
-
-pub same-eq : (v w : Values) → same v w ≡ true → v ≡ w
-unfolding same
-same-eq v w e =
-    let s = six (v .refcount =? w .refcount) (v .counters .read =? w .counters .read) (v .counters .write =? w .counters .write) (v .counters .exec =? w .counters .exec) (v .counters .supervisor =? w .counters .supervisor)
-    (v .counters .uncacheable =? w .counters .uncacheable) e in
-    λ i. record {
-      refcount = eqb-true (v .refcount) (w .refcount) (s .0) i;
-      counters = record {
-        read = eqb-true (v .counters .read) (w .counters .read) (s .1) i;
-        write = eqb-true (v .counters .write) (w .counters .write) (s .2) i;
-        exec = eqb-true (v .counters .exec) (w .counters .exec) (s .3) i;
-        supervisor = eqb-true (v .counters .supervisor) (w .counters .supervisor) (s .4) i;
-        uncacheable = eqb-true (v .counters .uncacheable) (w .counters .uncacheable) (s .5) i;
-      };
-    }
 
 pub join-values : (r : Region) (rs : List Region) (x : HostAddr) → Ordered (r .start .0) (r ∷ rs) → valuesAt (join r rs) x ≡ valuesAt (r ∷ rs) x
 unfolding join joins valuesAt has region

@@ -9,6 +9,7 @@ use Rattle.definitions.specs.Tests.{_<?_, if_then_else_, inside, host}
 use Rattle.definitions.proofs.Bools.{Where, inn, low, high, where?, in-true, in-low, in-high, in-ext, in-empty}
 use Rattle.definitions.specs.Values.{nothing, held}
 use Rattle.definitions.specs.Regions.{region, has, same, joins, join, joined, singles, regionsBelow, regions}
+use Rattle.definitions.proofs.RightLaws.{same-refl}
 use Rattle.definitions.proofs.Lists.{valuesAt, Ordered, AllHeld, Ends, Longest, Runs, Blank}
 use Rattle.definitions.proofs.RegionLaws.{nothing-below, ordered-from, joined-ordered, joined-values}
 use Rattle.definitions.specs.declared.addr.HostAddr.{HostAddr}
@@ -70,18 +71,6 @@ start-le lo r q rs qs o u h e = go (r .start .0 <? q .start .0) refl
     go true d =
         let v : r .values ≡ nothing = sym (value-at-start lo r rs o) ∙ e (r .start) ∙ nothing-below (r .start) (q .start .0) (q ∷ qs) (omega arith, u .1, u .2) (ltb-true _ _ d) in
         absurd (held-nothing (rw v at h))
-
-same-refl : (v : Values) → same v v ≡ true
-unfolding same
-same-refl v =
-    simp (
-      eq-eqb (v .refcount) (v .refcount) refl,
-      eq-eqb (v .counters .read) (v .counters .read) refl,
-      eq-eqb (v .counters .write) (v .counters .write) refl,
-      eq-eqb (v .counters .exec) (v .counters .exec) refl,
-      eq-eqb (v .counters .supervisor) (v .counters .supervisor) refl,
-      eq-eqb (v .counters .uncacheable) (v .counters .uncacheable) refl,
-    )
 
 joins-true : (r q : Region) → r .end .0 ≡ q .start .0 → r .values ≡ q .values → joins r q ≡ true
 unfolding joins

@@ -8,8 +8,8 @@ use lib.ListN.{length}
 use native.Mathlib.Omega.{arith}
 use native.Mathlib.Nat.{mul-le-mul-left}
 use borrow.Author.Tests.{ltb-true, eqb-true, eqb-false, ne-eqb}
-use Rattle.definitions.specs.Tests.{_<?_, _≤?_, _=?_, if_then_else_, host, hostUp, guestUp, all, each}
-use Rattle.definitions.specs.Rights.{READ, WRITE, EXEC, SUPER, UNCACHEABLE, named}
+use Rattle.definitions.specs.Tests.{_<?_, _≤?_, _=?_, host, hostUp, guestUp, all, each}
+use Rattle.definitions.specs.Rights.{Right, named, countOf}
 use Rattle.definitions.specs.Values.{nothing, raise, lower, changedIn}
 use Rattle.definitions.specs.Regions.{addressesFrom, addresses}
 use Rattle.definitions.specs.Segments.{segment, spanEnd, isIdentity, mapped, hostParts, unmapped, spanParts, placeAll, unmappedGpa, inOrder}
@@ -23,6 +23,7 @@ use Rattle.definitions.specs.declared.remapper.Segment.{Segment}
 use Rattle.definitions.specs.declared.call.Call.{Call}
 use Rattle.definitions.specs.declared.call.Call.the-variants.{Add, Remove, Refcount, Overlaps, Map, Unmap, UnmapGpa, Permissions, Remap, Mappings, Allow}
 use Rattle.definitions.proofs.Bools.{Where, inn, low, high, where?, both}
+use Rattle.definitions.proofs.RightLaws.{each-right, count-made, named-bit}
 use Rattle.definitions.proofs.Lists.{Blank}
 use Rattle.definitions.proofs.RegionsAre.{raised-blank, lowered-blank}
 use Rattle.definitions.proofs.SegmentLaws.{AllGood, place-good, length-place, place-order}
@@ -31,14 +32,10 @@ use Rattle.definitions.proofs.CutLaws.{EachParts, host-each, span-each,
 use Rattle.definitions.proofs.Passed.{AddPassed, MapPassed, UnmapPassed, add-passed, map-passed, unmap-passed, unmapGpa-passed}
 use Rattle.definitions.proofs.Reckoned.{start-empty, always-next, always}
 
--- holders and the four counts fit 16 bits, and the mark is one bit
+-- holders and the counts fit 16 bits
 pub record Counted (v : Values) : Type 0 where
   pub refcount : v .refcount ≤ 65535
-  pub read : v .counters .read ≤ 65535
-  pub write : v .counters .write ≤ 65535
-  pub exec : v .counters .exec ≤ 65535
-  pub supervisor : v .counters .supervisor ≤ 65535
-  pub uncacheable : v .counters .uncacheable ≤ 1
+  pub counts : (t : Right) → countOf t v ≤ 65535
 
 pub record Stored (c : Compartment) : Type 0 where
   pub good : AllGood (c .segments)
@@ -52,14 +49,7 @@ pub record Stored (c : Compartment) : Type 0 where
 
 nothing-counted : Counted nothing
 unfolding nothing
-nothing-counted = record {
-  refcount = omega arith;
-  read = omega arith;
-  write = omega arith;
-  exec = omega arith;
-  supervisor = omega arith;
-  uncacheable = omega arith;
-}
+nothing-counted = record { refcount = omega arith; counts = λ t. rw (count-made 0 (λ t. 0) t) (omega arith) }
 
 -- question 4 of one count
 raised-count : (n m : ℕ) → n ≤ 65535 → m ≤ 1 → ((m =? 0) || (n <? 65535)) ≡ true → n + m ≤ 65535
@@ -69,39 +59,18 @@ raised-count n m p q h = go (m =? 0) refl h
     go true d k = omega (arith, eqb-true m 0 d)
     go false d k = omega (arith, ltb-true n 65535 k)
 
--- the four counts' tests
-pub every-named : (p : ℕ → Bool) (r : ℕ) (v : Values) → everyNamed p r v ≡ true
-    → (((named READ r =? 0) || p (v .counters .read)) ≡ true) × (((named WRITE r =? 0) || p (v .counters .write)) ≡ true)
-    × (((named EXEC r =? 0) || p (v .counters .exec)) ≡ true) × (((named SUPER r =? 0) || p (v .counters .supervisor)) ≡ true)
-unfolding everyNamed
-every-named p r v h =
-    let w = (named READ r =? 0) || p (v .counters .read) in
-    let x = (named WRITE r =? 0) || p (v .counters .write) in
-    let y = (named EXEC r =? 0) || p (v .counters .exec) in
-    let z = (named SUPER r =? 0) || p (v .counters .supervisor) in
-    let q3 = both (w && x && y) z h in
-    let q2 = both (w && x) y (q3 .0) in
-    let q1 = both w x (q2 .0) in
-    (q1 .0, q1 .1, q2 .1, q3 .1)
-
 raise-counted : (r : ℕ) (v : Values) → Counted v → ((v .refcount <? 65535) && everyNamed (λ n. n <? 65535) r v) ≡ true
     → Counted (raise r v)
-unfolding raise named
+unfolding raise everyNamed
 raise-counted r v c h =
     let p = both (v .refcount <? 65535) (everyNamed (λ n. n <? 65535) r v) h in
-    let q = every-named (λ n. n <? 65535) r v (p .1) in
     record {
       refcount = omega (arith, ltb-true (v .refcount) 65535 (p .0));
-      read = raised-count (v .counters .read) (named READ r) (c .read) (omega arith) (q .0);
-      write = raised-count (v .counters .write) (named WRITE r) (c .write) (omega arith) (q .1);
-      exec = raised-count (v .counters .exec) (named EXEC r) (c .exec) (omega arith) (q .2);
-      supervisor = raised-count (v .counters .supervisor) (named SUPER r) (c .supervisor) (omega arith) (q .3);
-      uncacheable = mark (v .refcount =? 0);
+      counts = λ t.
+          rw (count-made (v .refcount + 1) (λ t. countOf t v + named t r) t)
+          (raised-count (countOf t v) (named t r) (c .counts t) (omega (arith, named-bit t r))
+          (each-right (λ t. (named t r =? 0) || (countOf t v <? 65535)) (p .1) t));
     }
-  where
-    mark : (t : Bool) → (if t then named UNCACHEABLE r else v .counters .uncacheable) ≤ 1
-    mark true = omega arith
-    mark false = c .uncacheable
 
 lower-counted : (r : ℕ) (v : Values) → Counted v → Counted (lower r v)
 unfolding lower
@@ -112,11 +81,7 @@ lower-counted r v c = go (v .refcount ≤? 1) refl
     go false d =
         simp d (record {
           refcount = omega arith;
-          read = omega arith;
-          write = omega arith;
-          exec = omega arith;
-          supervisor = omega arith;
-          uncacheable = omega arith;
+          counts = λ t. rw (count-made (v .refcount - 1) (λ t. countOf t v - named t r) t) (omega (arith, c .counts t));
         })
 
 -- what passes for all addresses of a range passes for each

@@ -1,5 +1,5 @@
--- Document 01, "Marked layouts (*)": the starred ones, as rows of one table, worked out anew where document 02, orders 1 and
--- 3, ask for it.
+-- Document 01, "Marked layouts (*)": the starred ones, as rows of one table, worked out anew where document 02, orders 1, 3
+-- and 8, ask for it.
 use Prim.Native.Nat.{ℕ, zero, suc, _+_}
 use mathlib.Core.Bool.{Bool, true, false, _&&_}
 use mathlib.Core.List.{List, [], _∷_, _++_}
@@ -115,8 +115,8 @@ smallRows =
     row (add 0 10 1 ∷ []) (add 5 15 3) 0 1 ((0, 5, 1) ∷ (5, 10, 3) ∷ (10, 15, 3) ∷ []) []
     ((0, 0, 5, 1, 1) ∷ (5, 5, 5, 1, 3) ∷ (10, 10, 5, 1, 3) ∷ [])
     ∷ row (add 0 10 1 ∷ add 5 15 3 ∷ []) (remove 5 15 3) 0 1 ((0, 10, 1) ∷ []) [] ((0, 0, 10, 1, 1) ∷ [])
-    ∷ row (add 0 10 1 ∷ []) (add 0 10 17) 0 0 ((0, 10, 1) ∷ []) [] ((0, 0, 10, 1, 1) ∷ [])
-    ∷ row (add 0 10 17 ∷ add 0 10 1 ∷ []) (remove 0 10 17) 0 0 ((0, 10, 17) ∷ []) [] ((0, 0, 10, 1, 17) ∷ [])
+    ∷ row (add 0 10 1 ∷ []) (add 0 10 17) 0 1 ((0, 10, 17) ∷ []) [] ((0, 0, 10, 1, 17) ∷ [])
+    ∷ row (add 0 10 17 ∷ add 0 10 1 ∷ []) (remove 0 10 17) 0 1 ((0, 10, 1) ∷ []) [] ((0, 0, 10, 1, 1) ∷ [])
     ∷ row two (remove 0 25 1) 0 1 ((25, 30, 1) ∷ []) [] ((25, 25, 5, 1, 1) ∷ [])
     ∷ row two (remove 12 25 1) 7 0 ((0, 10, 1) ∷ (20, 30, 1) ∷ []) [] ((0, 0, 10, 1, 1) ∷ (20, 20, 10, 1, 1) ∷ [])
     ∷ row stored (map 500 995 20 1) 11 0 [] ((100, 1000, 10, 1) ∷ []) []

@@ -12,3 +12,4 @@ pub mod Calls
 pub mod Script
 pub mod Layouts
 pub mod Independence
+pub mod Tally

@@ -1,8 +1,9 @@
 -- Document 01, "The stream (`remap`)" and "The reckoning": pages of groups of numbers, of any width.
 use Prim.Native.Nat.{ℕ, _+_, _*_, _/_}
-use mathlib.Core.List.{List, [], _∷_, _++_}
+use mathlib.Core.List.{List, [], _∷_, _++_, map}
 use lib.ListN.{length, take, drop}
 use Rattle.definitions.specs.Tests.{each}
+use Rattle.definitions.specs.Rights.{RIGHTS, countOf}
 use Rattle.definitions.specs.declared.region.MemoryPermission.{MemoryPermission}
 use Rattle.definitions.specs.declared.region.Region.{Region}
 use Rattle.definitions.specs.declared.remapper.Mapping.{Mapping}
@@ -17,9 +18,7 @@ permissionGroup p = p .start .0 ∷ p .end .0 ∷ p .ops .0 ∷ []
 
 -- of a stored region its range and all six values; of a stored segment its four numbers
 abbrev pub regionGroup : Region → List ℕ
-regionGroup r =
-    r .start .0 ∷ r .end .0 ∷ r .values .refcount ∷ r .values .counters .read ∷ r .values .counters .write
-    ∷ r .values .counters .exec ∷ r .values .counters .supervisor ∷ r .values .counters .uncacheable ∷ []
+regionGroup r = r .start .0 ∷ r .end .0 ∷ r .values .refcount ∷ map (λ t. countOf t (r .values)) RIGHTS
 
 unfoldable pub segmentGroup : Segment → List ℕ
 segmentGroup s = s .hpa .0 ∷ s .gpa .0 ∷ s .size ∷ s .repeat ∷ []

@@ -4,7 +4,7 @@ use mathlib.Core.Bool.{Bool, true, false, not, _&&_, _||_}
 use mathlib.Core.List.{List, [], _∷_}
 use lib.ListN.{length}
 use Rattle.definitions.specs.Tests.{_<?_, _≤?_, _=?_, if_then_else_, bit, fits, guestUp, all, any, keep}
-use Rattle.definitions.specs.Rights.{READ, WRITE, EXEC, SUPER, named}
+use Rattle.definitions.specs.Rights.{RIGHTS, named, countOf}
 use Rattle.definitions.specs.Regions.{meets, splits, regions, addresses, addChange, removeChange, newRecords, freed, refcountOf}
 use Rattle.definitions.specs.Segments.{overlaps, isIdentity, unmapped, touched, spanWhole, spanInside, unmappedGpa}
 use Rattle.definitions.specs.Reckoning.{Compartment}
@@ -55,11 +55,9 @@ unfoldable pub ask : List (Bool × Refusal) → Answer → Answer
 ask [] answer = answer
 ask (q ∷ qs) answer = if q .0 then ask qs answer else Refused (q .1)
 
--- do the counts that the rights name, but uncacheable, all pass this test?
+-- do the counts that the rights name, uncacheable among them (document 02, order 8), all pass this test?
 unfoldable pub everyNamed : (ℕ → Bool) → ℕ → Values → Bool
-everyNamed p rights v =
-    ((named READ rights =? 0) || p (v .counters .read)) && ((named WRITE rights =? 0) || p (v .counters .write))
-    && ((named EXEC rights =? 0) || p (v .counters .exec)) && ((named SUPER rights =? 0) || p (v .counters .supervisor))
+everyNamed p rights v = all (λ t. (named t rights =? 0) || p (countOf t v)) RIGHTS
 
 -- 4: holders and every count to be raised below 65,535?
 unfoldable pub canRaise : HostAddr → HostAddr → ℕ → (HostAddr → Values) → Bool
@@ -84,7 +82,7 @@ unfoldable pub lastEnd : ℕ → List Region → ℕ
 lastEnd end [] = end
 lastEnd end (q ∷ qs) = lastEnd (q .end .0) qs
 
--- 8: has each record touched a count above 0 for every named right but uncacheable?
+-- 8: has each record touched a count above 0 for every named right?
 unfoldable pub canLower : HostAddr → HostAddr → ℕ → List Region → Bool
 canLower a e rights rs = all (λ q. everyNamed (λ n. 0 <? n) rights (q .values)) (keep (meets a e) rs)
 

@@ -4,6 +4,7 @@ use mathlib.Core.Bool.{Bool, not, _&&_, _||_}
 use mathlib.Core.List.{List, [], _∷_}
 use lib.ListN.{length}
 use Rattle.definitions.specs.Tests.{_<?_, _≤?_, _=?_, if_then_else_, inside, bit, host, all, any, count, keep}
+use Rattle.definitions.specs.Rights.{RIGHTS, countOf}
 use Rattle.definitions.specs.Values.{nothing, held, raise, lower, rightsOf}
 use Rattle.definitions.specs.declared.addr.HostAddr.{HostAddr}
 use Rattle.definitions.specs.declared.region.Values.{Values}
@@ -23,12 +24,9 @@ within a e r = (a .0 ≤? r .start .0) && (r .end .0 ≤? e .0)
 unfoldable pub meets : HostAddr → HostAddr → Region → Bool
 meets a e r = (a .0 <? r .end .0) && (r .start .0 <? e .0)
 
--- Records are the longest runs of held addresses with all six equal.
+-- Records are the longest runs of held addresses with all six equal, the count of uncacheable too (document 02, order 8).
 unfoldable pub same : Values → Values → Bool
-same v w =
-    (v .refcount =? w .refcount) && (v .counters .read =? w .counters .read) && (v .counters .write =? w .counters .write)
-    && (v .counters .exec =? w .counters .exec) && (v .counters .supervisor =? w .counters .supervisor)
-    && (v .counters .uncacheable =? w .counters .uncacheable)
+same v w = (v .refcount =? w .refcount) && all (λ t. countOf t v =? countOf t w) RIGHTS
 
 -- does the second go on where the first ends, with the same values?
 unfoldable pub joins : Region → Region → Bool
@@ -65,12 +63,9 @@ addressesFrom x (suc n) = host x ∷ addressesFrom (suc x) n
 unfoldable pub addresses : HostAddr → HostAddr → List HostAddr
 addresses a e = addressesFrom (a .0) (e .0 - a .0)
 
--- do holders or one of the four counts pass this test, before and after?
+-- do holders or one of the counts, uncacheable among them (document 02, order 8), pass this test, before and after?
 unfoldable pub someCount : (ℕ → ℕ → Bool) → Values → Values → Bool
-someCount p v w =
-    p (v .refcount) (w .refcount) || p (v .counters .read) (w .counters .read)
-    || p (v .counters .write) (w .counters .write) || p (v .counters .exec) (w .counters .exec)
-    || p (v .counters .supervisor) (w .counters .supervisor)
+someCount p v w = p (v .refcount) (w .refcount) || any (λ t. p (countOf t v) (countOf t w)) RIGHTS
 
 -- Change is 1 when some address had a 0 that became 1 (add: holders or a count) or a 1 that became 0 (remove), else 0.
 unfoldable pub addChange : HostAddr → HostAddr → ℕ → (HostAddr → Values) → ℕ

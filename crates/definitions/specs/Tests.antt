@@ -61,6 +61,10 @@ module _ {A : Type 0} where
   count p [] = 0
   count p (x ∷ xs) = bit (p x) + count p xs
 
+  abbrev pub total : (A → ℕ) → List A → ℕ
+  total f [] = 0
+  total f (x ∷ xs) = f x + total f xs
+
   abbrev pub keep : (A → Bool) → List A → List A
   keep p [] = []
   keep p (x ∷ xs) = if p x then x ∷ keep p xs else keep p xs

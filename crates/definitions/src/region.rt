@@ -117,7 +117,7 @@ impl Region {
         a.uncacheable == b.uncacheable
     }
 
-    // The rights with a count above 0, and the mark.
+    // The rights with a count above 0.
     pub fn get_ops(self) -> MemOps
         ensures { λ r. ⌜ r ≡ rightsOf (self .values) ⌝ }
     {

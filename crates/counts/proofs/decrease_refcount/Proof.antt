@@ -80,7 +80,7 @@ module _ {M : Type 1} (𝓤 : URA M) (H : Heap 𝓤) (A : Atoms 𝓤) (W : Given
       asks3 ! fm leftOf known-left (h .values .refcount) (h .values .counters .supervisor) (c .supervisor) (was .1 .1 .1 .1 .0 .1 .1 .0 .1) (was .1 .1 .1 .1 .0 .1 .1 .1 .0 .1 .1 .1 .1 .1 .0 .1) (isc .1 .1 .1 .1 .1 .0 .1) (and-then ! (load ! (from ! (stop !)) (look ! 13 refl)) (and-then ! (load ! (from ! (stop !)) (look ! 7 refl)) (and-then ! (load ! (from ! (fld ! refl (stop !))) (look-in ! 6 (sub ! 3 refl (whole !)))) (no-more !)))) (λ m4 w4 e4 is4.
       land ! (from ! (stop !)) (store ! 8 refl (uint-lawful 𝓤 H A W w64 .typed m4 _ is4 .0)) $ assigns ! (of-opd ! (load ! (from ! (stop !)) (look ! 8 refl))) (from ! (hop ! (look ! 17 refl) (fld ! refl (fld ! refl (fld ! refl (stop !)))))) (store-in ! 0 (sub ! 3 refl (sub ! 1 refl (sub ! 2 refl (whole !)))) (uint-lawful 𝓤 H A W w64 .typed m4 _ is4 .0)) $
       assigns ! (of-opd ! (load ! (from ! (hop ! (look ! 17 refl) (fld ! refl (fld ! refl (fld ! refl (stop !)))))) (look-in ! 0 (sub ! 4 refl (sub ! 1 refl (sub ! 2 refl (whole !))))))) (from ! (stop !)) (store ! 6 refl (tt, record { fits = was .1 .1 .1 .1 .0 .1 .1 .1 .0 .1 .1 .1 .1 .1 .1 .0 .1 })) $
-      asks3 ! fm leftOf known-left (h .values .refcount) (h .values .counters .uncacheable) _ (was .1 .1 .1 .1 .0 .1 .1 .0 .1) (was .1 .1 .1 .1 .0 .1 .1 .1 .0 .1 .1 .1 .1 .1 .1 .0 .1) (lit< tt) (and-then ! (load ! (from ! (stop !)) (look ! 13 refl)) (and-then ! (load ! (from ! (stop !)) (look ! 7 refl)) (and-then ! (lit ! tt) (no-more !)))) (λ m5 w5 e5 is5.
+      asks3 ! fm leftOf known-left (h .values .refcount) (h .values .counters .uncacheable) (c .uncacheable) (was .1 .1 .1 .1 .0 .1 .1 .0 .1) (was .1 .1 .1 .1 .0 .1 .1 .1 .0 .1 .1 .1 .1 .1 .1 .0 .1) (isc .1 .1 .1 .1 .1 .1 .0 .1) (and-then ! (load ! (from ! (stop !)) (look ! 13 refl)) (and-then ! (load ! (from ! (stop !)) (look ! 7 refl)) (and-then ! (load ! (from ! (fld ! refl (stop !))) (look-in ! 6 (sub ! 4 refl (whole !)))) (no-more !)))) (λ m5 w5 e5 is5.
       land ! (from ! (stop !)) (store ! 8 refl (uint-lawful 𝓤 H A W w64 .typed m5 _ is5 .0)) $ assigns ! (of-opd ! (load ! (from ! (stop !)) (look ! 8 refl))) (from ! (hop ! (look ! 17 refl) (fld ! refl (fld ! refl (fld ! refl (stop !)))))) (store-in ! 0 (sub ! 4 refl (sub ! 1 refl (sub ! 2 refl (whole !)))) (uint-lawful 𝓤 H A W w64 .typed m5 _ is5 .0)) $
       assigns ! (of-opd ! (unit-lit !)) (from ! (stop !)) (init ! 19 refl (tt, tt)) $
       move ! (1 ∷ []) $ drop ! $ owned ! T.the-row (Is T.the-row) ((LL.makes T.the-type T′.the-plain) 𝓤 H A) (six h m0 m1 m2 m3 m4 m5) _ (six-is h was m0 m1 m2 m3 m4 m5 w0 w1 w2 w3 w4 w5 is0 is1 is2 is3 is4 is5) $ move ! (1 ∷ 0 ∷ []) $ closes ! tt T.the-row (six h m0 m1 m2 m3 m4 m5) (six-val h w0 w1 w2 w3 w4 w5 ∷ []) b o $

@@ -38,20 +38,17 @@ use Rattle.definitions.proofs.region.Region.Laws as T′
 use Rattle.definitions.proofs.region.MemOps.as_counters.Symbol as k-def
 use Rattle.definitions.proofs.region.MemOps.as_counters.Symbol.{name as #k}
 use Rattle.definitions.proofs.region.MemOps.as_counters.Met as k-thm
-use Rattle.counts.proofs.Laws.{raised, raised-is, plusOf, markOf, six}
-use Rattle.counts.proofs.Lent.{Ops, Two, Three, endedLent, argLent, valsLent, PostLent, asksOps, asks2, asks3, six-val, six-is, exits, lent-meets}
+use Rattle.counts.proofs.Laws.{raised, raised-is, plusOf, six}
+use Rattle.counts.proofs.Lent.{Ops, Two, endedLent, argLent, valsLent, PostLent, asksOps, asks2, six-val, six-is, exits, lent-meets}
 use Rattle.counts.proofs.plus.Symbol as g-def
 use Rattle.counts.proofs.plus.Symbol.{name as #g}
 use Rattle.counts.proofs.plus.Met as g-thm
-use Rattle.counts.proofs.marked.Symbol as m-def
-use Rattle.counts.proofs.marked.Symbol.{name as #m}
-use Rattle.counts.proofs.marked.Met as m-thm
 use Rattle.counts.proofs.increase_refcount.Key.{name as #f}
 use Rattle.counts.proofs.increase_refcount as f
 use Rattle.counts.proofs.increase_refcount.Statement as stated
 use Rattle.counts.proofs.increase_refcount.Code as code
 
-module _ {M : Type 1} (𝓤 : URA M) (H : Heap 𝓤) (A : Atoms 𝓤) (W : Given 𝓤 H A) (C : Calls 𝓤 H) (Λ : Loops 𝓤 H) (fm : FmC 𝓤 H (W .laws) C) (known : Triple 𝓤 (C #k) (Ops 𝓤 H A)) (known-plus : Triple 𝓤 (C #g) (Two 𝓤 H A plusOf)) (known-mark : Triple 𝓤 (C #m) (Three 𝓤 H A markOf)) (κ : Lft) (q : Share) (b o : ℕ) (γ : GName) (h : Region) (n : ℕ) where
+module _ {M : Type 1} (𝓤 : URA M) (H : Heap 𝓤) (A : Atoms 𝓤) (W : Given 𝓤 H A) (C : Calls 𝓤 H) (Λ : Loops 𝓤 H) (fm : FmC 𝓤 H (W .laws) C) (known : Triple 𝓤 (C #k) (Ops 𝓤 H A)) (known-plus : Triple 𝓤 (C #g) (Two 𝓤 H A plusOf)) (κ : Lft) (q : Share) (b o : ℕ) (γ : GName) (h : Region) (n : ℕ) where
   walk : ent 𝓤 (onEntry 𝓤 H A (endedLent .signature) (κ, tt) (q, tt) (argLent b o γ h n) (valsLent b o n)) (WpFn 𝓤 H C Λ code.function (vptr b o ∷ vint w64 n ∷ []) (PostLent 𝓤 H A raised κ q b o γ h n))
   walk =
       qed W ((‵ (flft κ q) ⊛ ‵ ftrue) ∷ ‵ (owns (MutRef (named 0) κ T.the-row ∷ u64 ∷ []) (argLent b o γ h n) (valsLent b o n)) ∷ []) ∵ split ! $ move ! (2 ∷ []) $ fsplit ! $ move ! (1 ∷ []) $ fsplit ! $
@@ -84,7 +81,7 @@ module _ {M : Type 1} (𝓤 : URA M) (H : Heap 𝓤) (A : Atoms 𝓤) (W : Given
       asks2 ! fm plusOf known-plus (h .values .counters .supervisor) (c .supervisor) (was .1 .1 .1 .1 .0 .1 .1 .1 .0 .1 .1 .1 .1 .1 .0 .1) (isc .1 .1 .1 .1 .1 .0 .1) (and-then ! (load ! (from ! (stop !)) (look ! 7 refl)) (and-then ! (load ! (from ! (fld ! refl (stop !))) (look-in ! 6 (sub ! 3 refl (whole !)))) (no-more !))) (λ m4 w4 e4 is4.
       land ! (from ! (stop !)) (store ! 8 refl (uint-lawful 𝓤 H A W w64 .typed m4 _ is4 .0)) $ assigns ! (of-opd ! (load ! (from ! (stop !)) (look ! 8 refl))) (from ! (hop ! (look ! 17 refl) (fld ! refl (fld ! refl (fld ! refl (stop !)))))) (store-in ! 0 (sub ! 3 refl (sub ! 1 refl (sub ! 2 refl (whole !)))) (uint-lawful 𝓤 H A W w64 .typed m4 _ is4 .0)) $
       assigns ! (of-opd ! (load ! (from ! (hop ! (look ! 17 refl) (fld ! refl (fld ! refl (fld ! refl (stop !)))))) (look-in ! 0 (sub ! 4 refl (sub ! 1 refl (sub ! 2 refl (whole !))))))) (from ! (stop !)) (store ! 6 refl (tt, record { fits = was .1 .1 .1 .1 .0 .1 .1 .1 .0 .1 .1 .1 .1 .1 .1 .0 .1 })) $
-      asks3 ! fm markOf known-mark (h .values .refcount) (h .values .counters .uncacheable) (c .uncacheable) (was .1 .1 .1 .1 .0 .1 .1 .0 .1) (was .1 .1 .1 .1 .0 .1 .1 .1 .0 .1 .1 .1 .1 .1 .1 .0 .1) (isc .1 .1 .1 .1 .1 .1 .0 .1) (and-then ! (load ! (from ! (stop !)) (look ! 13 refl)) (and-then ! (load ! (from ! (stop !)) (look ! 7 refl)) (and-then ! (load ! (from ! (fld ! refl (stop !))) (look-in ! 6 (sub ! 4 refl (whole !)))) (no-more !)))) (λ m5 w5 e5 is5.
+      asks2 ! fm plusOf known-plus (h .values .counters .uncacheable) (c .uncacheable) (was .1 .1 .1 .1 .0 .1 .1 .1 .0 .1 .1 .1 .1 .1 .1 .0 .1) (isc .1 .1 .1 .1 .1 .1 .0 .1) (and-then ! (load ! (from ! (stop !)) (look ! 7 refl)) (and-then ! (load ! (from ! (fld ! refl (stop !))) (look-in ! 6 (sub ! 4 refl (whole !)))) (no-more !))) (λ m5 w5 e5 is5.
       land ! (from ! (stop !)) (store ! 8 refl (uint-lawful 𝓤 H A W w64 .typed m5 _ is5 .0)) $ assigns ! (of-opd ! (load ! (from ! (stop !)) (look ! 8 refl))) (from ! (hop ! (look ! 17 refl) (fld ! refl (fld ! refl (fld ! refl (stop !)))))) (store-in ! 0 (sub ! 4 refl (sub ! 1 refl (sub ! 2 refl (whole !)))) (uint-lawful 𝓤 H A W w64 .typed m5 _ is5 .0)) $
       assigns ! (of-opd ! (unit-lit !)) (from ! (stop !)) (init ! 19 refl (tt, tt)) $
       move ! (1 ∷ []) $ drop ! $ owned ! T.the-row (Is T.the-row) ((LL.makes T.the-type T′.the-plain) 𝓤 H A) (six h m0 m1 m2 m3 m4 m5) _ (six-is h was m0 m1 m2 m3 m4 m5 w0 w1 w2 w3 w4 w5 is0 is1 is2 is3 is4 is5) $ move ! (1 ∷ 0 ∷ []) $ closes ! tt T.the-row (six h m0 m1 m2 m3 m4 m5) (six-val h w0 w1 w2 w3 w4 w5 ∷ []) b o $
@@ -100,5 +97,4 @@ increase-refcount-spec 𝓤 H 𝓜 𝓖 𝓡 =
     (lent-meets 𝓤 H (𝓖 .A) raised (givenOf 𝓤 H 𝓜 𝓖) (tablesOf 𝓤 H 𝓜 (tables 𝓤 H 𝓜 𝓡 code.env)) code.function
     (walk 𝓤 H (𝓖 .A) (givenOf 𝓤 H 𝓜 𝓖) (tables 𝓤 H 𝓜 𝓡 code.env .C) (tables 𝓤 H 𝓜 𝓡 code.env .Λ) (fmOf 𝓤 H (givenOf 𝓤 H 𝓜 𝓖 .laws) (tablesOf 𝓤 H 𝓜 (tables 𝓤 H 𝓜 𝓡 code.env)))
     (cited 𝓤 H (Ops 𝓤 H (𝓖 .A)) 𝓜 𝓡 code.env #k k-def.routine code.calls-definitions·region·MemOps·as-counters (k-thm.met 𝓤 H 𝓜 𝓖 𝓡))
-    (cited 𝓤 H (Two 𝓤 H (𝓖 .A) plusOf) 𝓜 𝓡 code.env #g g-def.routine code.calls-counts·plus (g-thm.met 𝓤 H 𝓜 𝓖 𝓡))
-    (cited 𝓤 H (Three 𝓤 H (𝓖 .A) markOf) 𝓜 𝓡 code.env #m m-def.routine code.calls-counts·marked (m-thm.met 𝓤 H 𝓜 𝓖 𝓡))))
+    (cited 𝓤 H (Two 𝓤 H (𝓖 .A) plusOf) 𝓜 𝓡 code.env #g g-def.routine code.calls-counts·plus (g-thm.met 𝓤 H 𝓜 𝓖 𝓡))))
