@@ -9,6 +9,7 @@ use Rattle.definitions.specs.Rights.{asCounters}
 use Rattle.definitions.specs.declared.addr.HostAddr.{HostAddr}
 use Rattle.definitions.specs.declared.region.Counters.{Counters}
 use Rattle.definitions.specs.declared.region.Region.{Region}
+use Rattle.definitions.proofs.Bools.{and-true}
 use Rattle.capability_engine.specs.RegionAsks.{everyOf, gapFrom, gapHere}
 
 module _ (e s : HostAddr) (r : Region) where
@@ -48,8 +49,8 @@ last-is a last r l = rw (le-leb (r .start .0) (a .0) l)
 pub last-not : (a last : HostAddr) (r : Region) → a .0 < r .start .0 → last ≡ (if r .start .0 ≤? a .0 then r .end else last)
 last-not a last r l = rw (lt-leb (r .start .0) (a .0) l)
 
-pub every-is : (rights : ℕ) (c : Counters) (p q s t a b d e f g h : Bool) → c ≡ asCounters (record { 0 = rights })
-    → a ≡ ((c .read =? 0) || p) → b ≡ ((c .write =? 0) || q) → d ≡ ((c .exec =? 0) || s) → e ≡ ((c .supervisor =? 0) || t)
-    → f ≡ (a && b) → g ≡ (f && d) → h ≡ (g && e) → h ≡ everyOf rights p q s t
+pub every-is : (rights : ℕ) (c : Counters) (p q s t u a b d e f g h i j : Bool) → c ≡ asCounters (record { 0 = rights })
+    → a ≡ ((c .read =? 0) || p) → b ≡ ((c .write =? 0) || q) → d ≡ ((c .exec =? 0) || s) → e ≡ ((c .supervisor =? 0) || t) → f ≡ ((c .uncacheable =? 0) || u)
+    → g ≡ (e && f) → h ≡ (d && g) → i ≡ (b && h) → j ≡ (a && i) → j ≡ everyOf rights p q s t u
 unfolding everyOf asCounters
-every-is rights c p q s t a b d e f g h ec ea eb ed ee ef eg eh = rw (eh, eg, ef, ea, eb, ed, ee, ec)
+every-is rights c p q s t u a b d e f g h i j ec ea eb ed ee ef eg eh ei ej = rw (ej, ei, eh, eg, ea, eb, ed, ee, ef, ec) (simp and-true)

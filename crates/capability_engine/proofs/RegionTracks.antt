@@ -27,7 +27,8 @@ use Rattle.definitions.specs.declared.answer.Answer.the-variants.{Accepted, Ref
 use Rattle.definitions.proofs.Bools.{both, in-high}
 use Rattle.definitions.proofs.Lists.{valuesAt, gap, fill, change, peak, added, removed, Ordered, Runs, Blank}
 use Rattle.definitions.proofs.RunLaws.{regions-runs, regions-values, value-at-start}
-use Rattle.definitions.proofs.Methods.{named-bit}
+use Rattle.definitions.specs.Rights.{named, countOf}
+use Rattle.definitions.proofs.RightLaws.{count-made, named-bit}
 use Rattle.definitions.proofs.PeakLaws.{length-cut, splits-cut, peak-grows}
 use Rattle.definitions.proofs.Passed.{passed}
 use Rattle.definitions.proofs.Stored.{Counted}
@@ -86,7 +87,7 @@ AllLow (r ∷ rs) = Counted (r .values) × AllLow rs
 
 nothing-low : Counted nothing
 unfolding nothing
-nothing-low = record { refcount = omega arith; read = omega arith; write = omega arith; exec = omega arith; supervisor = omega arith; uncacheable = omega arith }
+nothing-low = record { refcount = omega arith; counts = λ t. rw (count-made 0 (λ t. 0) t) (omega arith) }
 
 skip : (r : Region) (rs : List Region) (x : HostAddr) → r .end .0 ≤ x .0 → valuesAt (r ∷ rs) x ≡ valuesAt rs x
 unfolding valuesAt has
@@ -144,14 +145,11 @@ unfolding raise
 raise-small k v c =
     record {
       refcount = omega (arith, c .refcount);
-      read = omega (arith, c .read, named-bit 1 k);
-      write = omega (arith, c .write, named-bit 2 k);
-      exec = omega (arith, c .exec, named-bit 4 k);
-      supervisor = omega (arith, c .supervisor, named-bit 8 k);
+      counts = λ t. rw (count-made (v .refcount + 1) (λ t. countOf t v + named t k) t) (omega (arith, c .counts t, named-bit t k));
     }
 
 low-small : (v : Values) → Counted v → Small v
-low-small v c = record { refcount = omega (arith, c .refcount); read = omega (arith, c .read); write = omega (arith, c .write); exec = omega (arith, c .exec); supervisor = omega (arith, c .supervisor) }
+low-small v c = record { refcount = omega (arith, c .refcount); counts = λ t. omega (arith, c .counts t) }
 
 change-small : (k : ℕ) (a e : HostAddr) (rs : List Region) → AllLow rs → AllSmall (change (raise k) a e rs)
 unfolding change region

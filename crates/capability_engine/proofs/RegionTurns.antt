@@ -15,7 +15,8 @@ use Rattle.definitions.specs.declared.addr.HostAddr.{HostAddr}
 use Rattle.definitions.specs.declared.region.Values.{Values}
 use Rattle.definitions.specs.declared.region.Region.{Region}
 use Rattle.definitions.proofs.Lists.{gap, fill, change}
-use Rattle.definitions.proofs.RegionLaws.{same-eq}
+use Rattle.definitions.specs.Rights.{countOf, countersOf}
+use Rattle.definitions.proofs.RightLaws.{same-eq}
 use Rattle.counts.specs.Capped.{cappedCounts}
 use Rattle.counts.proofs.Laws.{roomy}
 use Rattle.capability_engine.specs.PoolWords.{regionAt, putRegion}
@@ -214,13 +215,7 @@ pub small-stays : (a e : HostAddr) (v : Values) → Small v → region a e (capp
 unfolding cappedCounts
 small-stays a e v s = sym (λ i. region a e (record {
   refcount = roomy (v .refcount) (small< (v .refcount) (s .refcount)) i;
-  counters = record {
-    read = roomy (v .counters .read) (small< (v .counters .read) (s .read)) i;
-    write = roomy (v .counters .write) (small< (v .counters .write) (s .write)) i;
-    exec = roomy (v .counters .exec) (small< (v .counters .exec) (s .exec)) i;
-    supervisor = roomy (v .counters .supervisor) (small< (v .counters .supervisor) (s .supervisor)) i;
-    uncacheable = v .counters .uncacheable;
-  };
+  counters = countersOf (λ t. roomy (countOf t v) (small< (countOf t v) (s .counts t)) i);
 }))
 
 pub small-append : (a b : List Region) → AllSmall (a ++ b) → AllSmall b

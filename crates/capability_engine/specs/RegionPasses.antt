@@ -2,6 +2,7 @@
 use Prim.Native.Nat.{ℕ, _≤_, _<_}
 use mathlib.Core.List.{List, [], _∷_}
 use Rattle.definitions.specs.Tests.{if_then_else_, keep}
+use Rattle.definitions.specs.Rights.{Right, countOf}
 use Rattle.definitions.specs.Values.{held, raise, lower}
 use Rattle.definitions.specs.Regions.{region, within, splits, cut}
 use Rattle.definitions.specs.declared.addr.HostAddr.{HostAddr}
@@ -26,10 +27,7 @@ changedOne f a e r = if within a e r then region (r .start) (r .end) (f (r .valu
 -- no count is above 65,536
 pub record Small (v : Values) : Type 0 where
   pub refcount : v .refcount ≤ 65536
-  pub read : v .counters .read ≤ 65536
-  pub write : v .counters .write ≤ 65536
-  pub exec : v .counters .exec ≤ 65536
-  pub supervisor : v .counters .supervisor ≤ 65536
+  pub counts : (t : Right) → countOf t v ≤ 65536
 
 abbrev pub AllSmall : List Region → Type 0
 AllSmall [] = Unit {0}

@@ -731,15 +731,23 @@ fn touches(r: Region, start: HostAddr, end: HostAddr) -> bool
 }
 
 // Do the counts that the rights name pass, by whether each count does?
-fn every(rights: u64, read: bool, write: bool, exec: bool, supervisor: bool) -> bool
-    ensures { λ r. ⌜ r ≡ everyOf rights read write exec supervisor ⌝ }
+fn every(
+    rights: u64,
+    read: bool,
+    write: bool,
+    exec: bool,
+    supervisor: bool,
+    uncacheable: bool,
+) -> bool
+    ensures { λ r. ⌜ r ≡ everyOf rights read write exec supervisor uncacheable ⌝ }
 {
     let c = MemOps(rights).as_counters();
     let a = or(c.read == 0, read);
     let b = or(c.write == 0, write);
     let d = or(c.exec == 0, exec);
     let e = or(c.supervisor == 0, supervisor);
-    and(and(and(a, b), d), e)
+    let f = or(c.uncacheable == 0, uncacheable);
+    and(a, and(b, and(d, and(e, f))))
 }
 
 fn can_rise(v: Values, rights: u64) -> bool
@@ -754,6 +762,7 @@ fn can_rise(v: Values, rights: u64) -> bool
             c.write < 65535,
             c.exec < 65535,
             c.supervisor < 65535,
+            c.uncacheable < 65535,
         ),
     )
 }
@@ -768,6 +777,7 @@ fn can_fall(v: Values, rights: u64) -> bool
         0 < c.write,
         0 < c.exec,
         0 < c.supervisor,
+        0 < c.uncacheable,
     )
 }
 
@@ -781,6 +791,7 @@ fn none_is_last(v: Values, rights: u64) -> bool
         c.write != 1,
         c.exec != 1,
         c.supervisor != 1,
+        c.uncacheable != 1,
     )
 }
 

@@ -1,4 +1,5 @@
 use Rattle.capability_engine.specs.RegionAsks.{lowEnough, everyOf}
+use Rattle.definitions.specs.Rights.{RIGHTS}
 use Rattle.definitions.specs.Questions.{everyNamed}
 use borrow.Author.Needs.{needs}
 use Rattle.capability_engine.proofs.region.can_rise.Statement.{statement}
@@ -11,7 +12,7 @@ and-requires : tie.Need-and-requires
 and-requires c κs = search needs
 
 returns : tie.Need-returns
-unfolding lowEnough everyNamed everyOf
+unfolding lowEnough everyNamed everyOf RIGHTS
 returns c = cc
 
 pub can-rise-spec : {M : Type 1} → statement M

@@ -18,6 +18,9 @@ or-requires-3 c κs = search needs
 or-requires-4 : tie.Need-or-requires-4
 or-requires-4 c κs = search needs
 
+or-requires-5 : tie.Need-or-requires-5
+or-requires-5 c κs = search needs
+
 and-requires : tie.Need-and-requires
 and-requires c κs = search needs
 
@@ -27,8 +30,11 @@ and-requires-2 c κs = search needs
 and-requires-3 : tie.Need-and-requires-3
 and-requires-3 c κs = search needs
 
+and-requires-4 : tie.Need-and-requires-4
+and-requires-4 c κs = search needs
+
 returns : tie.Need-returns
-returns c = every-is (c .before .before .before .before .before .before .before .before .before .before .before .before .args .rights) (c .before .before .before .before .before .before .before .before .before .before .before .as-counters .result) _ _ _ _ _ _ _ _ _ _ _ (c .before .before .before .before .before .before .before .before .before .before .before .as-counters .ensures) (c .before .before .before .before .before .before .before .before .before .or .ensures) (c .before .before .before .before .before .before .before .or2 .ensures) (c .before .before .before .before .before .or3 .ensures) (c .before .before .before .or4 .ensures) (c .before .before .and .ensures) (c .before .and2 .ensures) (c .and3 .ensures)
+returns c = every-is (c .before .before .before .before .before .before .before .before .before .before .before .before .before .before .before .args .rights) (c .before .before .before .before .before .before .before .before .before .before .before .before .before .before .as-counters .result) _ _ _ _ _ _ _ _ _ _ _ _ _ _ (c .before .before .before .before .before .before .before .before .before .before .before .before .before .before .as-counters .ensures) (c .before .before .before .before .before .before .before .before .before .before .before .before .or .ensures) (c .before .before .before .before .before .before .before .before .before .before .or2 .ensures) (c .before .before .before .before .before .before .before .before .or3 .ensures) (c .before .before .before .before .before .before .or4 .ensures) (c .before .before .before .before .or5 .ensures) (c .before .before .before .and .ensures) (c .before .before .and2 .ensures) (c .before .and3 .ensures) (c .and4 .ensures)
 
 pub every-spec : {M : Type 1} → statement M
 every-spec =
@@ -39,7 +45,9 @@ every-spec =
     or-requires-2
     or-requires-3
     or-requires-4
+    or-requires-5
     and-requires
     and-requires-2
     and-requires-3
+    and-requires-4
     returns)

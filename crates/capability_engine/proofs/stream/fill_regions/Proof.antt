@@ -4,6 +4,7 @@ use Rattle.capability_engine.proofs.StreamWalks.{Walk, walk-start, walk
 use Rattle.capability_engine.proofs.PoolLinks.{listed-step, stored-step, stored-none, stored-few}
 use Rattle.capability_engine.specs.PoolChain.{slots, Listed, storedAt}
 use Rattle.capability_engine.specs.PoolWords.{putRegion}
+use Rattle.definitions.specs.Rights.{RIGHTS}
 use Rattle.definitions.specs.Pages.{regionGroup}
 use mathlib.Core.Path.{ap, _∙_}
 use native.Mathlib.Omega.{arith}
@@ -46,7 +47,7 @@ loop-less : tie.Need-loop-less Inv-loop μ-loop
 loop-less c = search needs
 
 loop-again : tie.Need-loop-again Inv-loop μ-loop
-unfolding putRegion
+unfolding putRegion RIGHTS
 loop-again c = (listed-step _ _ (c .before .before .before .before .before .before .before .before .loop .inv .0) (c .before .before .before .before .before .before .if1 .left), walk-more 8 regionGroup eight (c .before .before .before .before .before .before .before .before .loop .inv .1) (stored-step _ (c .before .before .before .before .before .before .before .before .loop .inv .0) (c .before .before .before .before .before .before .if1 .left)) (c .before .before .before .before .before .before .before .loop-test .taken) (c .before .before .before .save .ensures ∙ ap (putRegion (c .before .before .before .before .before .before .before .before .loop .out) (c .before .before .before .before .before .before .before .before .loop .i)) (c .before .before .before .before .before .load .ensures)))
 
 same-length-2 : tie.Need-same-length-2 Inv-loop μ-loop
