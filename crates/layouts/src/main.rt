@@ -1,4 +1,4 @@
-// Runs layouts of document 01, and of document 02's order 4, that concern regions over the public calls, and writes each answer:
+// Runs layouts of document 01, and of document 02's orders 4 and 8, that concern regions over the public calls, and writes each answer:
 // the call, its answer's number and its value. Then the pool is filled, from one compartment and from all, and emptied.
 use capability_engine::Tables;
 use definitions::Answer;
@@ -9,7 +9,7 @@ ghost use Prim.Native.Nat.{_<_, _≤_};
 
 // Five numbers a row: the call (0 fresh tables, 1 add, 2 remove, 3 get_refcount, 4 permissions, 5 allow), the compartment, and
 // its start, end and rights, or the permission to read from, or the allowance.
-const LAYOUTS: [u64; 315] = [
+const LAYOUTS: [u64; 385] = [
     1,
     0,
     0,
@@ -44,7 +44,7 @@ const LAYOUTS: [u64; 315] = [
     0,
     0,
     10,
-    1, // uncacheable is not counted
+    1, // uncacheable is counted: it has come
     1,
     0,
     0,
@@ -64,7 +64,7 @@ const LAYOUTS: [u64; 315] = [
     0,
     0,
     10,
-    17,
+    17, // and it has gone
     1,
     0,
     0,
@@ -75,6 +75,76 @@ const LAYOUTS: [u64; 315] = [
     0,
     10,
     17,
+    4,
+    0,
+    0,
+    0,
+    0,
+    2,
+    0,
+    0,
+    10,
+    16, // 8: its count is 0
+    0,
+    0,
+    0,
+    0,
+    0,
+    1,
+    0,
+    0,
+    10,
+    17,
+    1,
+    0,
+    0,
+    5,
+    1,
+    1,
+    0,
+    5,
+    10,
+    17, // counted twice there, once below
+    4,
+    0,
+    0,
+    0,
+    0, // so two records, of the same rights
+    2,
+    0,
+    5,
+    10,
+    17,
+    1,
+    0,
+    5,
+    10,
+    1, // counted once in both
+    4,
+    0,
+    0,
+    0,
+    0, // so one record
+    0,
+    0,
+    0,
+    0,
+    0,
+    1,
+    0,
+    0,
+    10,
+    17,
+    2,
+    0,
+    0,
+    10,
+    1, // the last holder takes the count along
+    1,
+    0,
+    0,
+    10,
+    1,
     4,
     0,
     0,
@@ -458,7 +528,7 @@ fn row(
     links: &mut [usize],
     gens: &mut [u64],
 ) -> Tables
-    requires { ⌜ i < 63 ⌝ }
+    requires { ⌜ i < 77 ⌝ }
     requires { ⌜ IsGrown (now words) (now next) (now links) (now gens) t ⌝ }
     ensures { λ r. ⌜ IsGrown (now (words .exit)) (now (next .exit)) (now (links .exit)) (now (gens .exit)) r ⌝ }
 {
@@ -587,7 +657,7 @@ fn run(t: Tables, words: &mut [u64], next: &mut [usize], links: &mut [usize], ge
 {
     let mut t = t;
     let mut i: usize = 0;
-    while i < 63 {
+    while i < 77 {
         t = row(t, i, words, next, links, gens);
         i += 1;
     }
