@@ -146,6 +146,21 @@ impl Tables {
         (self.segments(k) == segments).then_some(self)
     }
 
+    /// Tables with the segments of these, and with these permissions of one compartment: each is added once, but twice where it touches
+    /// the one before with equal rights and that was added once, so that the original does not join the two.
+    pub fn with_permissions(self, k: usize, permissions: &[u64]) -> Option<Tables> {
+        let mut tables = Tables { remappers: self.remappers, ..Tables::default() };
+        let (mut last, mut once) = ([0; 2], false);
+        for p in permissions.chunks_exact(3) {
+            let again = once && last == [p[0], p[2]];
+            for _ in 0..=u64::from(again) {
+                tables.change(&Call::new(Kind::Add, k as u64, p)).ok()?;
+            }
+            (last, once) = ([p[1], p[2]], !again);
+        }
+        (tables.permissions(k) == permissions).then_some(tables)
+    }
+
     pub fn overlaps(&self, k: usize, start: u64, size: u64) -> bool {
         self.remappers[k].overlaps(start as usize, size as usize)
     }

@@ -1,7 +1,9 @@
 //! The original as judge of the port: scripts go through both, and every answer, list and stream is compared.
 pub mod allowances;
 pub mod compare;
+pub mod counts;
 pub mod cuts;
+pub mod exchange;
 pub mod guests;
 pub mod judge;
 pub mod line;

@@ -355,7 +355,7 @@ pub fn script(seed: u64, i: u64) -> (&'static str, Preamble, Script) {
         lines.push(if bad && r.once_in(3) { damaged(&line, &mut r) } else { line });
     }
     let open = r.once_in(8);
-    (name, preamble, Script { lines, known, open })
+    (name, preamble, Script { lines, known, open, ..Script::default() })
 }
 
 fn script_of(calls: &[Call]) -> Script {
@@ -370,6 +370,17 @@ fn full_counts() -> Script {
     calls.extend([add(5, 6, 3), add(5, 6, 0), add(4, 6, 1), add(6, 7, 1)]);
     calls.push(Call::new(Kind::Remove, 0, &[5, 6, 1]));
     calls.extend([add(5, 6, 1), add(5, 6, 1), Call::new(Kind::Print, 0, &[])]);
+    Script { known, ..script_of(&calls) }
+}
+
+/// A count at 65,535 with one holder: behind each add but the first a remove that names nothing; then calls about it.
+fn full_count_alone() -> Script {
+    let call = |kind, rights| Call::new(kind, 0, &[5, 6, rights]);
+    let again = [call(Kind::Add, 1), call(Kind::Remove, 0)];
+    let mut calls = vec![call(Kind::Add, 1)];
+    calls.extend(again.iter().cycle().take(2 * 65534));
+    let known = calls.len();
+    calls.extend([call(Kind::Add, 1), call(Kind::Add, 2), call(Kind::Remove, 1), call(Kind::Add, 1)]);
     Script { known, ..script_of(&calls) }
 }
 
@@ -454,6 +465,19 @@ fn named_unmaps() -> Script {
     script_of(&calls)
 }
 
+/// Two that share a buffer, one of them uncacheable, in both orders of coming and going: every reason to name an add or a remove, and
+/// removes that name uncacheable where it is not.
+fn shared_buffers() -> Script {
+    let call = |kind, k, rights| Call::new(kind, k, &[0, 10, rights]);
+    let mut calls = Vec::new();
+    for (k, first, second) in [(0, 1, 17), (1, 17, 1)] {
+        calls.extend([call(Kind::Add, k, first), call(Kind::Remove, k, 16), call(Kind::Add, k, second)]);
+        calls.extend([call(Kind::Remove, k, 17), call(Kind::Remove, k, 1), call(Kind::Remove, k, 16)]);
+        calls.push(call(Kind::Remove, k, first));
+    }
+    script_of(&calls)
+}
+
 /// A segment, and one behind another of a higher guest address: `overlaps` is asked about both.
 fn one_and_two() -> [Script; 2] {
     let map = |numbers: &[u64]| Call::new(Kind::Map, 0, numbers);
@@ -461,9 +485,19 @@ fn one_and_two() -> [Script; 2] {
 }
 
 /// Scripts that reach every answer, every reason to name a call and every departure of `overlaps`, whatever the seed.
-pub fn fixed() -> [Script; 7] {
+pub fn fixed() -> [Script; 9] {
     let [one, two] = one_and_two();
-    [refusals(), full_pool(), full_counts(), small_allowance(), named_unmaps(), one, two]
+    [
+        refusals(),
+        full_pool(),
+        full_counts(),
+        full_count_alone(),
+        small_allowance(),
+        named_unmaps(),
+        shared_buffers(),
+        one,
+        two,
+    ]
 }
 
 /// The calls of the small universe: addresses 0 to 3, and with the calls on records allowances of 0 to 3.
