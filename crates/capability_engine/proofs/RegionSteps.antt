@@ -1,7 +1,7 @@
 -- What the functions that ask one region show.
 use Prim.Native.Nat.{ℕ, _-_, _≤_, _<_}
-use mathlib.Core.Path.{_≡_}
-use mathlib.Core.Bool.{Bool, true, false, _&&_, _||_}
+use mathlib.Core.Path.{_≡_, ap, _∙_}
+use mathlib.Core.Bool.{Bool, true, false, not, _&&_, _||_}
 use native.Mathlib.Omega.{arith}
 use borrow.Author.Tests.{le-leb, lt-leb}
 use Rattle.definitions.specs.Tests.{_<?_, _≤?_, _=?_, if_then_else_, bit}
@@ -48,6 +48,11 @@ last-is a last r l = rw (le-leb (r .start .0) (a .0) l)
 
 pub last-not : (a last : HostAddr) (r : Region) → a .0 < r .start .0 → last ≡ (if r .start .0 ≤? a .0 then r .end else last)
 last-not a last r l = rw (lt-leb (r .start .0) (a .0) l)
+
+-- a yes is told of a region that is not touched
+pub asked-some : (t p q a b c : Bool) → a ≡ (not t || q) → b ≡ (p || not a) → c ≡ (t && b) → c ≡ (t && (p || not q))
+asked-some true p q a b c ea eb ec = ec ∙ eb ∙ ap (λ x. p || not x) ea
+asked-some false p q a b c ea eb ec = ec
 
 pub every-is : (rights : ℕ) (c : Counters) (p q s t u a b d e f g h i j : Bool) → c ≡ asCounters (record { 0 = rights })
     → a ≡ ((c .read =? 0) || p) → b ≡ ((c .write =? 0) || q) → d ≡ ((c .exec =? 0) || s) → e ≡ ((c .supervisor =? 0) || t) → f ≡ ((c .uncacheable =? 0) || u)

@@ -750,9 +750,13 @@ fn every(
     and(a, and(b, and(d, and(e, f))))
 }
 
-fn can_rise(v: Values, rights: u64) -> bool
-    ensures { λ r. ⌜ r ≡ lowEnough rights v ⌝ }
+// Question 4 of one region: yes of one that is not touched.
+fn can_rise(touched: bool, v: Values, rights: u64) -> bool
+    ensures { λ r. ⌜ r ≡ (not touched || lowEnough rights v) ⌝ }
 {
+    if !touched {
+        return true;
+    }
     let c = v.counters;
     and(
         v.refcount < 65535,
@@ -767,9 +771,13 @@ fn can_rise(v: Values, rights: u64) -> bool
     )
 }
 
-fn can_fall(v: Values, rights: u64) -> bool
-    ensures { λ r. ⌜ r ≡ everyNamed (λ n. 0 <? n) rights v ⌝ }
+// Question 8 of one region: yes of one that is not touched.
+fn can_fall(touched: bool, v: Values, rights: u64) -> bool
+    ensures { λ r. ⌜ r ≡ (not touched || everyNamed (λ n. 0 <? n) rights v) ⌝ }
 {
+    if !touched {
+        return true;
+    }
     let c = v.counters;
     every(
         rights,
@@ -781,9 +789,13 @@ fn can_fall(v: Values, rights: u64) -> bool
     )
 }
 
-fn none_is_last(v: Values, rights: u64) -> bool
-    ensures { λ r. ⌜ r ≡ everyNamed (λ n. not (n =? 1)) rights v ⌝ }
+// Does a region keep each right that is named when one is taken from it? Yes of one that is not touched.
+fn none_is_last(touched: bool, v: Values, rights: u64) -> bool
+    ensures { λ r. ⌜ r ≡ (not touched || everyNamed (λ n. not (n =? 1)) rights v) ⌝ }
 {
+    if !touched {
+        return true;
+    }
     let c = v.counters;
     every(
         rights,
@@ -836,10 +848,10 @@ fn add_step(ask: AddAsk, r: Region, start: HostAddr, end: HostAddr, rights: u64)
     ensures { λ b. ⌜ b ≡ addStep start end rights ask r ⌝ }
 {
     let touched = touches(r, start, end);
-    let low = can_rise(r.values, rights);
-    let above = can_fall(r.values, rights);
+    let low = can_rise(touched, r.values, rights);
+    let above = can_fall(touched, r.values, rights);
     let here = has_gap(r, ask.from, end);
-    let raisable = and(ask.raisable, or(!touched, low));
+    let raisable = and(ask.raisable, low);
     let cuts_start = or(ask.cuts_start, has_inside(r, start));
     let cuts_end = or(ask.cuts_end, has_inside(r, end));
     let left = less(ask.left, here);
@@ -879,15 +891,15 @@ fn remove_step(ask: RemoveAsk, r: Region, start: HostAddr, end: HostAddr, rights
     ensures { λ b. ⌜ b ≡ removeStep start end rights ask r ⌝ }
 {
     let touched = touches(r, start, end);
-    let above = can_fall(r.values, rights);
-    let stay = none_is_last(r.values, rights);
+    let above = can_fall(touched, r.values, rights);
+    let stay = none_is_last(touched, r.values, rights);
     let frees = frees_one(r, start, end);
     let begun = or(ask.begun, r.start.0 <= start.0);
     let last = last_of(r, start, ask.last);
     let cuts_start = or(ask.cuts_start, has_inside(r, start));
     let cuts_end = or(ask.cuts_end, has_inside(r, end));
     let lack = less(ask.lack, frees);
-    let lowerable = and(ask.lowerable, or(!touched, above));
+    let lowerable = and(ask.lowerable, above);
     let gone = or(ask.gone, and(touched, or(r.values.refcount == 1, !stay)));
     RemoveAsk {
         begun,

@@ -5,15 +5,18 @@ use borrow.Author.Needs.{needs}
 use Rattle.capability_engine.proofs.region.can_rise.Statement.{statement}
 use Rattle.capability_engine.proofs.region.can_rise.Tie as tie
 
+returns : tie.Need-returns
+returns c = simp (c .if1 .taken)
+
 every-requires : tie.Need-every-requires
 every-requires c κs = search needs
 
 and-requires : tie.Need-and-requires
 and-requires c κs = search needs
 
-returns : tie.Need-returns
+returns-2 : tie.Need-returns-2
 unfolding lowEnough everyNamed everyOf RIGHTS
-returns c = cc
+returns-2 c = rw (c .before .before .before .before .before .before .before .before .before .if1 .left, c .and .ensures, c .before .every .ensures)
 
 pub can-rise-spec : {M : Type 1} → statement M
-can-rise-spec = tie.close (tie.spec every-requires and-requires returns)
+can-rise-spec = tie.close (tie.spec returns every-requires and-requires returns-2)

@@ -1,4 +1,8 @@
+use mathlib.Core.Bool.{not}
+use Rattle.definitions.specs.Tests.{_=?_}
+use Rattle.definitions.specs.Questions.{everyNamed}
 use Rattle.capability_engine.specs.RegionAsks.{removeStep}
+use Rattle.capability_engine.proofs.RegionSteps.{asked-some}
 use borrow.Author.Needs.{needs}
 use Rattle.capability_engine.proofs.region.remove_step.Statement.{statement}
 use Rattle.capability_engine.proofs.region.remove_step.Tie as tie
@@ -36,24 +40,21 @@ or-requires-3 c κs = search needs
 less-requires : tie.Need-less-requires
 less-requires c κs = search needs
 
-or-requires-4 : tie.Need-or-requires-4
-or-requires-4 c κs = search needs
-
 and-requires : tie.Need-and-requires
 and-requires c κs = search needs
 
-or-requires-5 : tie.Need-or-requires-5
-or-requires-5 c κs = search needs
+or-requires-4 : tie.Need-or-requires-4
+or-requires-4 c κs = search needs
 
 and-requires-2 : tie.Need-and-requires-2
 and-requires-2 c κs = search needs
 
-or-requires-6 : tie.Need-or-requires-6
-or-requires-6 c κs = search needs
+or-requires-5 : tie.Need-or-requires-5
+or-requires-5 c κs = search needs
 
 returns : tie.Need-returns
 unfolding removeStep
-returns c = rw (c .before .before .before .before .before .before .before .before .before .before .before .before .or .ensures, c .before .before .before .before .before .before .before .before .before .before .before .last-of .ensures, c .before .before .before .before .before .before .before .before .before .or2 .ensures, c .before .before .before .before .before .before .before .before .before .before .has-inside .ensures, c .before .before .before .before .before .before .before .or3 .ensures, c .before .before .before .before .before .before .before .before .has-inside2 .ensures, c .before .before .before .before .before .before .less .ensures, c .before .before .before .before .before .before .before .before .before .before .before .before .before .before .before .frees-one .ensures, c .before .before .before .before .and .ensures, c .before .before .before .before .before .or4 .ensures, c .or6 .ensures, c .before .and2 .ensures, c .before .before .or5 .ensures, c .before .before .before .before .before .before .before .before .before .before .before .before .before .before .before .before .before .before .touches .ensures, c .before .before .before .before .before .before .before .before .before .before .before .before .before .before .before .before .before .can-fall .ensures, c .before .before .before .before .before .before .before .before .before .before .before .before .before .before .before .before .none-is-last .ensures)
+returns c = rw (c .before .before .before .before .before .before .before .before .before .before .before .or .ensures, c .before .before .before .before .before .before .before .before .before .before .last-of .ensures, c .before .before .before .before .before .before .before .before .or2 .ensures, c .before .before .before .before .before .before .before .before .before .has-inside .ensures, c .before .before .before .before .before .before .or3 .ensures, c .before .before .before .before .before .before .before .has-inside2 .ensures, c .before .before .before .before .before .less .ensures, c .before .before .before .before .before .before .before .before .before .before .before .before .before .before .frees-one .ensures, c .before .before .before .before .and .ensures, c .before .before .before .before .before .before .before .before .before .before .before .before .before .before .before .before .can-fall .ensures, c .or5 .ensures, asked-some (c .before .before .before .before .before .before .before .before .before .before .before .before .before .before .before .before .before .touches .result) (c .before .before .before .before .before .before .before .before .before .before .before .before .before .before .before .before .before .before .args .r .values .refcount =? 1) (everyNamed (λ n. not (n =? 1)) (c .before .before .before .before .before .before .before .before .before .before .before .before .before .before .before .before .before .before .args .rights) (c .before .before .before .before .before .before .before .before .before .before .before .before .before .before .before .before .before .before .args .r .values)) (c .before .before .before .before .before .before .before .before .before .before .before .before .before .before .before .none-is-last .result) (c .before .before .or4 .result) (c .before .and2 .result) (c .before .before .before .before .before .before .before .before .before .before .before .before .before .before .before .none-is-last .ensures) (c .before .before .or4 .ensures) (c .before .and2 .ensures), c .before .before .before .before .before .before .before .before .before .before .before .before .before .before .before .before .before .touches .ensures)
 
 pub remove-step-spec : {M : Type 1} → statement M
 remove-step-spec =
@@ -70,9 +71,8 @@ remove-step-spec =
     has-inside-requires-2
     or-requires-3
     less-requires
-    or-requires-4
     and-requires
-    or-requires-5
+    or-requires-4
     and-requires-2
-    or-requires-6
+    or-requires-5
     returns)
