@@ -1,10 +1,9 @@
 //! A right in the place of uncacheable. The original counts read, write, exec and super, and has a mark for uncacheable; document 02, order
 //! 8, counts all alike. So the port is given a script with uncacheable exchanged for one of the four, and what it gives has the two
 //! exchanged back: the original, which is given the script as it is, judges how uncacheable is counted by how it counts that right.
+use crate::counts::{place, UNCACHEABLE};
 use crate::line::{Call, Kind};
 use crate::port::List;
-
-const UNCACHEABLE: u64 = 16;
 
 /// The right that the port is given uncacheable for, and that for uncacheable. Without one, all stays as it is.
 #[derive(Clone, Copy, Default)]
@@ -34,7 +33,7 @@ impl Exchange {
                     let rights = group.len() - 1;
                     group[rights] = self.rights(group[rights]);
                 }
-                List::Regions => group.swap(3 + right.trailing_zeros() as usize, 7),
+                List::Regions => group.swap(place(right), place(UNCACHEABLE)),
                 List::Segments => (),
             }
         }
