@@ -1,5 +1,5 @@
--- Document 01, "Marked layouts (*)": the starred ones, as rows of one table, worked out anew where document 02, orders 1, 3
--- and 8, ask for it.
+-- Document 01, "Marked layouts (*)": the starred ones, as rows of one table, worked out anew where document 02, orders 1, 3,
+-- 4 and 8, ask for it.
 use Prim.Native.Nat.{ℕ, zero, suc, _+_}
 use mathlib.Core.Bool.{Bool, true, false, _&&_}
 use mathlib.Core.List.{List, [], _∷_, _++_}
