@@ -24,6 +24,7 @@ pub mod Unmaps
 pub mod Pool
 pub mod TallyLaws
 pub mod Demand
+pub mod GivenBack
 pub mod Tables
 pub mod TableLaws
 pub mod Independence

@@ -64,25 +64,28 @@ pub flag-some : (flag count : ℕ) → (count ≡ 0 → ⊥) → (flag ≡ flag 
 flag-some flag count e = (simp (lt-ltb 0 count (omega arith)) (omega arith), omega arith)
 
 -- the sum of the flags
-pub ops-are : (v : Values) (a b c d e : ℕ) → a ≡ 1 * bit (0 <? v .counters .read) → b ≡ 2 * bit (0 <? v .counters .write)
+pub ops-are : (v : Values) (a b c d e f : ℕ) → a ≡ 1 * bit (0 <? v .counters .read) → b ≡ 2 * bit (0 <? v .counters .write)
     → c ≡ 4 * bit (0 <? v .counters .exec) → d ≡ 8 * bit (0 <? v .counters .supervisor)
-    → e ≡ 16 * bit (0 <? v .counters .uncacheable) → _≡_ {A = MemOps} (record { 0 = a + b + c + d + e }) (rightsOf v)
+    → e ≡ 16 * bit (0 <? v .counters .uncacheable) → f ≡ 32 * bit (0 <? v .counters .device)
+    → _≡_ {A = MemOps} (record { 0 = a + b + c + d + e + f }) (rightsOf v)
 unfolding rightsOf RIGHTS
-ops-are v a b c d e p q r s t = λ i. record { 0 = sum i }
+ops-are v a b c d e f p q r s t u = λ i. record { 0 = sum i }
   where
-    sum : a + b + c + d + e ≡ rightsOf v .0
+    sum : a + b + c + d + e + f ≡ rightsOf v .0
     sum = omega arith
 
 -- where all but the last are equal, the last decides
 pub same-last : (v w : Values) → v .refcount ≡ w .refcount → v .counters .read ≡ w .counters .read
     → v .counters .write ≡ w .counters .write → v .counters .exec ≡ w .counters .exec
-    → v .counters .supervisor ≡ w .counters .supervisor → (v .counters .uncacheable =? w .counters .uncacheable) ≡ same v w
+    → v .counters .supervisor ≡ w .counters .supervisor → v .counters .uncacheable ≡ w .counters .uncacheable
+    → (v .counters .device =? w .counters .device) ≡ same v w
 unfolding same RIGHTS
-same-last v w p q r s t = simp (
+same-last v w p q r s t u = simp (
   eq-eqb (v .refcount) (w .refcount) p,
   eq-eqb (v .counters .read) (w .counters .read) q,
   eq-eqb (v .counters .write) (w .counters .write) r,
   eq-eqb (v .counters .exec) (w .counters .exec) s,
   eq-eqb (v .counters .supervisor) (w .counters .supervisor) t,
+  eq-eqb (v .counters .uncacheable) (w .counters .uncacheable) u,
   and-true,
 )

@@ -7,7 +7,9 @@ use native.Mathlib.Nat.{mul-div-le, mul-le-mul-left}
 use lib.ListN.{length, take, drop, length-append, length-take, length-drop, drop-of-length-le}
 use lib.Seq.{drop-drop, drop-at, take-nil}
 use Rattle.definitions.specs.Tests.{each}
-use Rattle.definitions.specs.Pages.{page, filled, pagesFrom, pagesEnd}
+use Rattle.definitions.specs.Rights.{RIGHTS}
+use Rattle.definitions.specs.Pages.{regionGroup, recordLen, page, filled, pagesFrom, pagesEnd}
+use Rattle.definitions.specs.declared.region.Region.{Region}
 
 take-rest : {A : Type 0} (n : ℕ) (l : List A) → take n l ++ drop (length (take n l)) l ≡ l
 take-rest zero l = refl
@@ -18,6 +20,11 @@ take-rest (suc n) (m ∷ l) = ap (λ t. m ∷ t) (take-rest n l)
 abbrev pub Wide : ℕ → List (List ℕ) → Type 0
 Wide w [] = Unit {0}
 Wide w (g ∷ gs) = (length g ≡ w) × Wide w gs
+
+-- a stored region's group
+pub record-long : (r : Region) → length (regionGroup r) ≡ recordLen
+unfolding RIGHTS
+record-long r = refl
 
 pub wide-map : {A : Type 0} (w : ℕ) (f : A → List ℕ) → ((a : A) → length (f a) ≡ w) → (xs : List A) → Wide w (map f xs)
 wide-map w f h [] = tt

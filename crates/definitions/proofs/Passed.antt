@@ -38,14 +38,14 @@ passed (q ∷ qs) x h = go (q .0) refl h (λ k. passed qs x k)
 
 module _ (m : ℕ) (c : Compartment) (a e : HostAddr) (r : ℕ) where
   pub record AddPassed : Type 0 where
-    pub rights : r < 32
+    pub rights : r < 64
     pub range : a .0 ≤ e .0
     -- not asked of an empty range
     pub counts : (a .0 =? e .0) ≡ false → canRaise a e r (c .values) ≡ true
     pub records : (a .0 =? e .0) ≡ false → inUse c + newRecords a e (c .values) ≤ m
 
   pub record RemovePassed : Type 0 where
-    pub rights : r < 32
+    pub rights : r < 64
     pub range : a .0 ≤ e .0
     pub begins : (a .0 =? e .0) ≡ false → 1 ≤ length (begun a (regions (c .values)))
     pub reaches : (a .0 =? e .0) ≡ false → a .0 < lastEnd 0 (begun a (regions (c .values)))
@@ -54,11 +54,11 @@ module _ (m : ℕ) (c : Compartment) (a e : HostAddr) (r : ℕ) where
 
   -- the two questions before, and the others unless the range is empty
   ranged-passed : (x : Answer) → accepted (ranged a e r x) ≡ true
-      → (r < 32) × (a .0 ≤ e .0) × ((a .0 =? e .0) ≡ false → accepted x ≡ true)
+      → (r < 64) × (a .0 ≤ e .0) × ((a .0 =? e .0) ≡ false → accepted x ≡ true)
   unfolding ranged
   ranged-passed x h =
-      let p = passed ((r <? 32, InvalidMemOps) ∷ (a .0 ≤? e .0, InvalidRange) ∷ []) (if a .0 =? e .0 then Accepted 0 else x) h in
-      (ltb-true r 32 (p .0 .0), leb-true (a .0) (e .0) (p .0 .1 .0), λ d. simp d at (p .1))
+      let p = passed ((r <? 64, InvalidMemOps) ∷ (a .0 ≤? e .0, InvalidRange) ∷ []) (if a .0 =? e .0 then Accepted 0 else x) h in
+      (ltb-true r 64 (p .0 .0), leb-true (a .0) (e .0) (p .0 .1 .0), λ d. simp d at (p .1))
 
   pub add-passed : accepted (onAdd m c a e r) ≡ true → AddPassed
   unfolding onAdd

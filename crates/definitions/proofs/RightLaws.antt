@@ -1,5 +1,5 @@
 -- Laws of the rights and their counts, over every right at once.
-use Prim.Native.Nat.{ℕ, zero, suc, _<_, _≤_}
+use Prim.Native.Nat.{ℕ, zero, suc, _+_, _/_, _%_, _<_, _≤_}
 use mathlib.Core.Path.{_≡_, refl}
 use mathlib.Core.Bool.{Bool, true, false, not, _&&_, _||_}
 use mathlib.Core.List.{List, [], _∷_}
@@ -7,7 +7,7 @@ use lib.ListN.{length, getD}
 use native.Mathlib.Omega.{arith}
 use borrow.Author.Tests.{eqb-true, eq-eqb}
 use Rattle.definitions.specs.Tests.{_<?_, _=?_, bit, all, any}
-use Rattle.definitions.specs.Rights.{Right, READ, WRITE, EXEC, SUPER, UNCACHEABLE, RIGHTS, named, countOf, countersOf}
+use Rattle.definitions.specs.Rights.{Right, READ, WRITE, EXEC, SUPER, UNCACHEABLE, DEVICE, RIGHTS, flag, named, isValid, countOf, countersOf}
 use Rattle.definitions.specs.Values.{rightsOf}
 use Rattle.definitions.specs.Regions.{same}
 use Rattle.definitions.specs.declared.region.Values.{Values}
@@ -40,6 +40,7 @@ each-right p h WRITE = all-at p RIGHTS 1 READ (omega arith) h
 each-right p h EXEC = all-at p RIGHTS 2 READ (omega arith) h
 each-right p h SUPER = all-at p RIGHTS 3 READ (omega arith) h
 each-right p h UNCACHEABLE = all-at p RIGHTS 4 READ (omega arith) h
+each-right p h DEVICE = all-at p RIGHTS 5 READ (omega arith) h
 
 -- the count of a right among counters that are made of counts
 pub count-made : (n : ℕ) (f : Right → ℕ) (t : Right) → countOf t (record { refcount = n; counters = countersOf f }) ≡ f t
@@ -48,6 +49,7 @@ count-made n f WRITE = refl
 count-made n f EXEC = refl
 count-made n f SUPER = refl
 count-made n f UNCACHEABLE = refl
+count-made n f DEVICE = refl
 
 -- values with the same holders and counts are equal
 pub values-eq : (v w : Values) → v .refcount ≡ w .refcount → ((t : Right) → countOf t v ≡ countOf t w) → v ≡ w
@@ -77,12 +79,32 @@ bit-small false = omega arith
 -- the rights of an address name just those with a count above 0
 pub named-rights : (t : Right) (v : Values) → named t (rightsOf v .0) ≡ bit (0 <? countOf t v)
 unfolding named rightsOf RIGHTS
-named-rights t v = go t (bit-small (0 <? countOf READ v)) (bit-small (0 <? countOf WRITE v)) (bit-small (0 <? countOf EXEC v)) (bit-small (0 <? countOf SUPER v)) (bit-small (0 <? countOf UNCACHEABLE v))
+named-rights t v =
+    go t (small READ) (small WRITE) (small EXEC) (small SUPER) (small UNCACHEABLE) (small DEVICE)
   where
+    small : (t : Right) → bit (0 <? countOf t v) ≤ 1
+    small t = bit-small (0 <? countOf t v)
+
     go : (t : Right) → bit (0 <? countOf READ v) ≤ 1 → bit (0 <? countOf WRITE v) ≤ 1 → bit (0 <? countOf EXEC v) ≤ 1
-        → bit (0 <? countOf SUPER v) ≤ 1 → bit (0 <? countOf UNCACHEABLE v) ≤ 1 → named t (rightsOf v .0) ≡ bit (0 <? countOf t v)
-    go READ a b c d e = omega arith
-    go WRITE a b c d e = omega arith
-    go EXEC a b c d e = omega arith
-    go SUPER a b c d e = omega arith
-    go UNCACHEABLE a b c d e = omega arith
+        → bit (0 <? countOf SUPER v) ≤ 1 → bit (0 <? countOf UNCACHEABLE v) ≤ 1 → bit (0 <? countOf DEVICE v) ≤ 1
+        → named t (rightsOf v .0) ≡ bit (0 <? countOf t v)
+    go READ a b c d e f = omega arith
+    go WRITE a b c d e f = omega arith
+    go EXEC a b c d e f = omega arith
+    go SUPER a b c d e f = omega arith
+    go UNCACHEABLE a b c d e f = omega arith
+    go DEVICE a b c d e f = omega arith
+
+-- Document 02, order 10: the page tables ignore the device right. So does is_valid, which is asked before they are written.
+pub device-ignored : (rights : ℕ) → isValid (record { 0 = rights + flag DEVICE }) ≡ isValid (record { 0 = rights })
+unfolding isValid named
+device-ignored rights = rw (read rights, write rights, exec rights)
+  where
+    read : (n : ℕ) → (n + 32) / 1 % 2 ≡ n / 1 % 2
+    read n = omega arith
+
+    write : (n : ℕ) → (n + 32) / 2 % 2 ≡ n / 2 % 2
+    write n = omega arith
+
+    exec : (n : ℕ) → (n + 32) / 4 % 2 ≡ n / 4 % 2
+    exec n = omega arith

@@ -96,7 +96,7 @@ AllFit (c ∷ cs) = Fits c × AllFit cs
 -- what is asked behind 3 matters only where start is below end
 ranged-is : (a e : HostAddr) (rights : ℕ) (p q : Answer) → (a .0 < e .0 → p ≡ q) → ranged a e rights p ≡ ranged a e rights q
 unfolding ranged ask
-ranged-is a e rights p q h = go (rights <? 32) (a .0 ≤? e .0) refl (a .0 =? e .0) refl
+ranged-is a e rights p q h = go (rights <? 64) (a .0 ≤? e .0) refl (a .0 =? e .0) refl
   where
     go : (s t : Bool) → (a .0 ≤? e .0) ≡ t → (u : Bool) → (a .0 =? e .0) ≡ u
         → (if s then (if t then (if u then Accepted 0 else p) else Refused InvalidRange) else Refused InvalidMemOps)

@@ -1,14 +1,17 @@
--- Document 01, "The reckoning": what it is for a list of mappings to agree with a compartment's reckoning at a host address.
+-- Document 01, "The reckoning": what it is for a list of mappings to agree with a compartment's reckoning at a host address;
+-- and document 02, order 10: to give a right back there.
 use Prim.Native.Nat.{ℕ, _+_, _-_}
 use mathlib.Core.Path.{_≡_}
 use mathlib.Core.Bool.{Bool, true, false, not, _&&_}
 use mathlib.Core.List.{List}
-use Rattle.definitions.specs.Tests.{_=?_, inside, any, count}
+use Rattle.definitions.specs.Tests.{_<?_, _=?_, inside, bit, any, count}
+use Rattle.definitions.specs.Rights.{Right, named, countOf}
 use Rattle.definitions.specs.Values.{held, rightsOf}
 use Rattle.definitions.specs.Segments.{covers}
 use Rattle.definitions.specs.Reckoning.{Compartment}
 use Rattle.definitions.specs.declared.addr.HostAddr.{HostAddr}
 use Rattle.definitions.specs.declared.addr.GuestAddr.{GuestAddr}
+use Rattle.definitions.specs.declared.region.Values.{Values}
 use Rattle.definitions.specs.declared.remapper.Segment.{Segment}
 use Rattle.definitions.specs.declared.remapper.Mapping.{Mapping}
 
@@ -45,3 +48,11 @@ pub record AgreesAt (x : HostAddr) (c : Compartment) (ms : List Mapping) : Type 
       → (count (contains x) ms ≡ 1) × (count (λ m. contains x m && not (maps1to1 m)) ms ≡ 0)
   -- each with exactly the rights left there
   pub rights : count (λ m. contains x m && not (m .ops .0 =? rightsOf (c .values x) .0)) ms ≡ 0
+
+-- Document 02, order 10: whoever reads the stream gets a right back exactly where the per-address reckoning leaves it, which is
+-- where it leaves its count above 0.
+pub record GivesBack (t : Right) (x : HostAddr) (v : Values) (ms : List Mapping) : Type 0 where
+  -- some mapping with x names it exactly if its count is above 0
+  pub back : any (λ m. contains x m && (named t (m .ops .0) =? 1)) ms ≡ (0 <? countOf t v)
+  -- and none with x says otherwise
+  pub no-other : count (λ m. contains x m && not (named t (m .ops .0) =? bit (0 <? countOf t v))) ms ≡ 0

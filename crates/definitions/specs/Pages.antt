@@ -16,9 +16,14 @@ mappingGroup m = m .hpa .0 ∷ m .gpa .0 ∷ m .size ∷ m .repeat ∷ m .ops .0
 unfoldable pub permissionGroup : MemoryPermission → List ℕ
 permissionGroup p = p .start .0 ∷ p .end .0 ∷ p .ops .0 ∷ []
 
--- of a stored region its range and all six values; of a stored segment its four numbers
+-- of a stored region its range, holders and a count for each right; of a stored segment its four numbers
 abbrev pub regionGroup : Region → List ℕ
 regionGroup r = r .start .0 ∷ r .end .0 ∷ r .values .refcount ∷ map (λ t. countOf t (r .values)) RIGHTS
+
+-- how many numbers a stored region's group has: a sixth count in every record (document 02, order 10) makes it nine, which
+-- proofs/PageLaws.antt holds to the rights (`record-long`)
+abbrev pub recordLen : ℕ
+recordLen = 9
 
 unfoldable pub segmentGroup : Segment → List ℕ
 segmentGroup s = s .hpa .0 ∷ s .gpa .0 ∷ s .size ∷ s .repeat ∷ []

@@ -86,10 +86,10 @@ lastEnd end (q ∷ qs) = lastEnd (q .end .0) qs
 unfoldable pub canLower : HostAddr → HostAddr → ℕ → List Region → Bool
 canLower a e rights rs = all (λ q. everyNamed (λ n. 0 <? n) rights (q .values)) (keep (meets a e) rs)
 
--- add and remove: 2, 3, (equal: done), then 4 and 5, or 6, 7, 5 and 8
+-- add and remove: 2 (document 02, order 10: below 64), 3, (equal: done), then 4 and 5, or 6, 7, 5 and 8
 unfoldable pub ranged : HostAddr → HostAddr → ℕ → Answer → Answer
 ranged a e rights answer =
-    ask ((rights <? 32, InvalidMemOps) ∷ (a .0 ≤? e .0, InvalidRange) ∷ []) (if a .0 =? e .0 then Accepted 0 else answer)
+    ask ((rights <? 64, InvalidMemOps) ∷ (a .0 ≤? e .0, InvalidRange) ∷ []) (if a .0 =? e .0 then Accepted 0 else answer)
 
 -- Document 02, order 4: question 5 compares with the caller's allowance only, at the same peaks.
 unfoldable pub onAdd : ℕ → Compartment → HostAddr → HostAddr → ℕ → Answer

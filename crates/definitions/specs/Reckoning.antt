@@ -12,7 +12,7 @@ use Rattle.definitions.specs.declared.remapper.Segment.{Segment}
 use Rattle.definitions.specs.declared.call.Call.{Call}
 use Rattle.definitions.specs.declared.call.Call.the-variants.{Add, Remove, Refcount, Overlaps, Map, Unmap, UnmapGpa, Permissions, Remap, Mappings, Allow}
 
--- It keeps each address's six values, at first 0, and a segment list of its own, at first empty.
+-- It keeps each address's values, at first 0, and a segment list of its own, at first empty.
 pub record Compartment : Type 0 where
   pub values : HostAddr → Values
   pub segments : List Segment

@@ -24,7 +24,8 @@ within a e r = (a .0 ≤? r .start .0) && (r .end .0 ≤? e .0)
 unfoldable pub meets : HostAddr → HostAddr → Region → Bool
 meets a e r = (a .0 <? r .end .0) && (r .start .0 <? e .0)
 
--- Records are the longest runs of held addresses with all six equal, the count of uncacheable too (document 02, order 8).
+-- Records are the longest runs of held addresses with holders and all counts equal, those of uncacheable and device too
+-- (document 02, orders 8 and 10).
 unfoldable pub same : Values → Values → Bool
 same v w = (v .refcount =? w .refcount) && all (λ t. countOf t v =? countOf t w) RIGHTS
 

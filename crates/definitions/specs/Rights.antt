@@ -7,13 +7,14 @@ use Rattle.definitions.specs.declared.region.MemOps.{MemOps}
 use Rattle.definitions.specs.declared.region.Counters.{Counters}
 use Rattle.definitions.specs.declared.region.Values.{Values}
 
--- 1 read, 2 write, 4 exec, 8 super, 16 uncacheable
+-- 1 read, 2 write, 4 exec, 8 super, 16 uncacheable; document 02, order 10: 32 device
 pub data Right : Type 0 where
   READ : Right
   WRITE : Right
   EXEC : Right
   SUPER : Right
   UNCACHEABLE : Right
+  DEVICE : Right
 
 abbrev pub flag : Right → ℕ
 flag READ = 1
@@ -21,10 +22,11 @@ flag WRITE = 2
 flag EXEC = 4
 flag SUPER = 8
 flag UNCACHEABLE = 16
+flag DEVICE = 32
 
 -- all of them, in this order; each is counted (document 02, order 8)
 unfoldable pub RIGHTS : List Right
-RIGHTS = READ ∷ WRITE ∷ EXEC ∷ SUPER ∷ UNCACHEABLE ∷ []
+RIGHTS = READ ∷ WRITE ∷ EXEC ∷ SUPER ∷ UNCACHEABLE ∷ DEVICE ∷ []
 
 -- 1 if the rights name this one, else 0
 unfoldable pub named : Right → ℕ → ℕ
@@ -42,6 +44,7 @@ countOf WRITE v = v .counters .write
 countOf EXEC v = v .counters .exec
 countOf SUPER v = v .counters .supervisor
 countOf UNCACHEABLE v = v .counters .uncacheable
+countOf DEVICE v = v .counters .device
 
 abbrev pub countersOf : (Right → ℕ) → Counters
 countersOf f = record {
@@ -50,6 +53,7 @@ countersOf f = record {
   exec = f EXEC;
   supervisor = f SUPER;
   uncacheable = f UNCACHEABLE;
+  device = f DEVICE;
 }
 
 -- the counters of one holder: 1 for each right that is named

@@ -1,5 +1,5 @@
--- Document 01, "What an address holds": the six values of an address, and how an accepted add or remove changes them; with
--- document 02, order 8: uncacheable is counted as the other rights are.
+-- Document 01, "What an address holds": the values of an address, and how an accepted add or remove changes them; with
+-- document 02, orders 8 and 10: uncacheable and device are counted as the other rights are.
 use Prim.Native.Nat.{ℕ, _+_, _-_, _*_}
 use mathlib.Core.Bool.{Bool}
 use Rattle.definitions.specs.Tests.{_<?_, _≤?_, if_then_else_, inside, bit, total}

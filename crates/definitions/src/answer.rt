@@ -5,7 +5,7 @@ ghost use Rattle.definitions.specs.Questions.{numberOf, valueOf, refusal
 // One for each question, in the order of their numbers; the comment says what got a no.
 pub enum Refusal {
     NoCompartment, // 1: the compartment is below 8
-    InvalidMemOps, // 2: the rights are below 32
+    InvalidMemOps, // 2: the rights are below 64
     InvalidRange, // 3: start is at most end
     CountFull, // 4: every count to be raised is below 65,535
     OutOfMemory, // 5: the records, at their most, are within the allowance

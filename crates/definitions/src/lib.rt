@@ -13,6 +13,7 @@ pub use call::Call;
 pub use region::Counters;
 pub use region::MemOps;
 pub use region::MemoryPermission;
+pub use region::RECORD_LEN;
 pub use region::Region;
 pub use region::Values;
 pub use remapper::Mapping;

@@ -15,20 +15,24 @@ pub struct Counters {
     pub exec: u64,
     pub supervisor: u64,
     pub uncacheable: u64,
+    pub device: u64,
 }
 
-// The six values of an address: the holders and the five counters.
+// The values of an address: the holders and the counters.
 pub struct Values {
     pub refcount: u64,
     pub counters: Counters,
 }
 
-// A run of held addresses, [start, end), with all six values equal.
+// A run of held addresses, [start, end), with all values equal.
 pub struct Region {
     pub start: HostAddr,
     pub end: HostAddr,
     pub values: Values,
 }
+
+// The numbers of a stored region: its range, holders and a count for each right.
+pub const RECORD_LEN: usize = 9;
 
 pub struct MemoryPermission {
     pub start: HostAddr,
@@ -48,6 +52,8 @@ impl MemOps {
     pub const SUPER: MemOps = MemOps(8);
 
     pub const UNCACHEABLE: MemOps = MemOps(16);
+
+    pub const DEVICE: MemOps = MemOps(32);
 
     // No for write or exec without read.
     pub fn is_valid(self) -> bool
@@ -73,6 +79,7 @@ impl MemOps {
             exec: self.0 / MemOps::EXEC.0 % 2,
             supervisor: self.0 / MemOps::SUPER.0 % 2,
             uncacheable: self.0 / MemOps::UNCACHEABLE.0 % 2,
+            device: self.0 / MemOps::DEVICE.0 % 2,
         }
     }
 }
@@ -114,7 +121,10 @@ impl Region {
         if a.supervisor != b.supervisor {
             return false;
         }
-        a.uncacheable == b.uncacheable
+        if a.uncacheable != b.uncacheable {
+            return false;
+        }
+        a.device == b.device
     }
 
     // The rights with a count above 0.
@@ -127,6 +137,7 @@ impl Region {
         let exec = flag_of(4, c.exec);
         let supervisor = flag_of(8, c.supervisor);
         let uncacheable = flag_of(16, c.uncacheable);
-        MemOps(read + write + exec + supervisor + uncacheable)
+        let device = flag_of(32, c.device);
+        MemOps(read + write + exec + supervisor + uncacheable + device)
     }
 }

@@ -19,9 +19,12 @@ div-t12 c = search needs
 div-t15 : tie.Need-div-t15
 div-t15 c = search needs
 
+div-t18 : tie.Need-div-t18
+div-t18 c = search needs
+
 returns : tie.Need-returns
 unfolding asCounters named
 returns c = refl
 
 pub as-counters-spec : {M : Type 1} → statement M
-as-counters-spec = tie.close (tie.spec div-t3 div-t6 div-t9 div-t12 div-t15 returns)
+as-counters-spec = tie.close (tie.spec div-t3 div-t6 div-t9 div-t12 div-t15 div-t18 returns)

@@ -27,7 +27,11 @@ unfolding same RIGHTS
 returns-5 c = simp (ne-eqb _ _ (c .if5 .taken), and-false)
 
 returns-6 : tie.Need-returns-6
-returns-6 c = same-last _ _ (c .before .before .before .before .before .before .before .before .before .before .before .before .before .before .if1 .left) (c .before .before .before .before .before .before .before .before .before .before .before .if2 .left) (c .before .before .before .before .before .before .before .before .if3 .left) (c .before .before .before .before .before .if4 .left) (c .before .before .if5 .left)
+unfolding same RIGHTS
+returns-6 c = simp (ne-eqb _ _ (c .if6 .taken), and-false)
+
+returns-7 : tie.Need-returns-7
+returns-7 c = same-last _ _ (c .before .before .before .before .before .before .before .before .before .before .before .before .before .before .before .before .before .if1 .left) (c .before .before .before .before .before .before .before .before .before .before .before .before .before .before .if2 .left) (c .before .before .before .before .before .before .before .before .before .before .before .if3 .left) (c .before .before .before .before .before .before .before .before .if4 .left) (c .before .before .before .before .before .if5 .left) (c .before .before .if6 .left)
 
 pub same-counts-spec : {M : Type 1} → statement M
-same-counts-spec = tie.close (tie.spec returns returns-2 returns-3 returns-4 returns-5 returns-6)
+same-counts-spec = tie.close (tie.spec returns returns-2 returns-3 returns-4 returns-5 returns-6 returns-7)
