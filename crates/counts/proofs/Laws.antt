@@ -34,20 +34,20 @@ raised rights r = region (r .start) (r .end) (cappedCounts (raise rights (r .val
 abbrev pub lowered : ℕ → Region → Region
 lowered rights r = region (r .start) (r .end) (lower rights (r .values))
 
--- the region with these six values
-abbrev pub six : Region → ℕ → ℕ → ℕ → ℕ → ℕ → ℕ → Region
-six r n a b c d u = record {
+-- the region with these values
+abbrev pub made : Region → ℕ → ℕ → ℕ → ℕ → ℕ → ℕ → ℕ → Region
+made r n a b c d u v = record {
   start = r .start;
   end = r .end;
-  values = record { refcount = n; counters = record { read = a; write = b; exec = c; supervisor = d; uncacheable = u } };
+  values = record { refcount = n; counters = record { read = a; write = b; exec = c; supervisor = d; uncacheable = u; device = v } };
 }
 
-pub raised-is : (r : Region) (rights : ℕ) (by : Counters) → by ≡ asCounters (record { 0 = rights }) → (n a b c d u : ℕ) → n ≡ plusOf (r .values .refcount) 1
+pub raised-is : (r : Region) (rights : ℕ) (by : Counters) → by ≡ asCounters (record { 0 = rights }) → (n a b c d u v : ℕ) → n ≡ plusOf (r .values .refcount) 1
     → a ≡ plusOf (r .values .counters .read) (by .read) → b ≡ plusOf (r .values .counters .write) (by .write) → c ≡ plusOf (r .values .counters .exec) (by .exec) → d ≡ plusOf (r .values .counters .supervisor) (by .supervisor)
-    → u ≡ plusOf (r .values .counters .uncacheable) (by .uncacheable)
-    → six r n a b c d u ≡ raised rights r
+    → u ≡ plusOf (r .values .counters .uncacheable) (by .uncacheable) → v ≡ plusOf (r .values .counters .device) (by .device)
+    → made r n a b c d u v ≡ raised rights r
 unfolding region raise asCounters cappedCounts
-raised-is r rights by e n a b c d u en ea eb ec ed eu = rw (en, ea, eb, ec, ed, eu, e)
+raised-is r rights by e n a b c d u v en ea eb ec ed eu ev = rw (en, ea, eb, ec, ed, eu, ev, e)
 
 last-or-not : (t : Bool) (n m : ℕ) (f g : Right → ℕ)
     → record { refcount = if t then 0 else n - m; counters = countersOf (λ i. if t then 0 else f i - g i) }
@@ -56,14 +56,14 @@ unfolding nothing
 last-or-not true n m f g = refl
 last-or-not false n m f g = refl
 
-pub lowered-is : (r : Region) (rights : ℕ) (by : Counters) → by ≡ asCounters (record { 0 = rights }) → (n a b c d u : ℕ) → n ≡ leftOf (r .values .refcount) (r .values .refcount) 1
+pub lowered-is : (r : Region) (rights : ℕ) (by : Counters) → by ≡ asCounters (record { 0 = rights }) → (n a b c d u v : ℕ) → n ≡ leftOf (r .values .refcount) (r .values .refcount) 1
     → a ≡ leftOf (r .values .refcount) (r .values .counters .read) (by .read) → b ≡ leftOf (r .values .refcount) (r .values .counters .write) (by .write)
     → c ≡ leftOf (r .values .refcount) (r .values .counters .exec) (by .exec) → d ≡ leftOf (r .values .refcount) (r .values .counters .supervisor) (by .supervisor)
-    → u ≡ leftOf (r .values .refcount) (r .values .counters .uncacheable) (by .uncacheable)
-    → six r n a b c d u ≡ lowered rights r
+    → u ≡ leftOf (r .values .refcount) (r .values .counters .uncacheable) (by .uncacheable) → v ≡ leftOf (r .values .refcount) (r .values .counters .device) (by .device)
+    → made r n a b c d u v ≡ lowered rights r
 unfolding region lower asCounters
-lowered-is r rights by e n a b c d u en ea eb ec ed eu =
-    rw (en, ea, eb, ec, ed, eu, e)
+lowered-is r rights by e n a b c d u v en ea eb ec ed eu ev =
+    rw (en, ea, eb, ec, ed, eu, ev, e)
     (λ i. record {
       start = r .start;
       end = r .end;

@@ -1,4 +1,4 @@
--- Functions that are lent a region by `&mut` and change its six values in place, and functions with plain parameters that lend
+-- Functions that are lent a region by `&mut` and change its values in place, and functions with plain parameters that lend
 -- a local to one of those: what their walks have in common. Each is about a change F that the rights make to the region.
 -- Assumes nothing.
 use mathlib.Core.Path.{_≡_, refl, sym, ap, subst}
@@ -46,7 +46,7 @@ use Rattle.definitions.proofs.region.MemOps.Laws as O′
 use Rattle.definitions.proofs.region.Counters as N
 use Rattle.definitions.proofs.region.Region as T
 use Rattle.definitions.proofs.region.Region.Laws as T′
-use Rattle.counts.proofs.Laws.{six}
+use Rattle.counts.proofs.Laws.{made}
 
 -- ---- a call of a covered function that asks nothing: its result r is had at its machine value w, with what is said of it
 module _ {M : Type 1} {𝓤 : URA M} {H : Heap 𝓤} {A : Atoms 𝓤} {K : Type 0} {W : Given 𝓤 H A} {Γ : List (Item 𝓤)} {E : Env 𝓤 H} {C : Calls 𝓤 H} {f : Name} {xs : List Operand} {Λ : Loops 𝓤 H} {q : Post 𝓤 H} {d : Place} {rest : Body} where
@@ -135,18 +135,18 @@ argLent b o γ h n = (record { ptr = (b, o); name = γ; now = h }, (n, tt))
 abbrev pub valsLent : ℕ → ℕ → ℕ → List Val × (List Val × Unit {0})
 valsLent b o n = (vptr b o ∷ [], (vint w64 n ∷ [], tt))
 
--- the machine value of the region with six values at theirs
-abbrev pub six-val : Region → Val → Val → Val → Val → Val → Val → Val
-six-val h n a b c d u =
-    vstruct (vcons (vstruct (vcons (vint w64 (h .start .0)) vnil)) (vcons (vstruct (vcons (vint w64 (h .end .0)) vnil)) (vcons (vstruct (vcons n (vcons (vstruct (vcons a (vcons b (vcons c (vcons d (vcons u vnil)))))) vnil))) vnil)))
+-- the machine value of the region with values at theirs
+abbrev pub made-val : Region → Val → Val → Val → Val → Val → Val → Val → Val
+made-val h n a b c d u v =
+    vstruct (vcons (vstruct (vcons (vint w64 (h .start .0)) vnil)) (vcons (vstruct (vcons (vint w64 (h .end .0)) vnil)) (vcons (vstruct (vcons n (vcons (vstruct (vcons a (vcons b (vcons c (vcons d (vcons u (vcons v vnil))))))) vnil))) vnil)))
 
 -- what closing the borrow asks
-pub six-is : (h : Region) → Is T.the-row h (LL.vals T.the-type T′.the-laws h) → (n a b c d u : ℕ) (vn va vb vc vd vu : Val) → Is u64 n (vn ∷ []) → Is u64 a (va ∷ []) → Is u64 b (vb ∷ []) → Is u64 c (vc ∷ []) → Is u64 d (vd ∷ []) → Is u64 u (vu ∷ [])
-    → Is T.the-row (six h n a b c d u) (six-val h vn va vb vc vd vu ∷ [])
-six-is h was n a b c d u vn va vb vc vd vu n-is a-is b-is c-is d-is u-is =
+pub made-is : (h : Region) → Is T.the-row h (LL.vals T.the-type T′.the-laws h) → (n a b c d u v : ℕ) (vn va vb vc vd vu vv : Val) → Is u64 n (vn ∷ []) → Is u64 a (va ∷ []) → Is u64 b (vb ∷ []) → Is u64 c (vc ∷ []) → Is u64 d (vd ∷ []) → Is u64 u (vu ∷ []) → Is u64 v (vv ∷ [])
+    → Is T.the-row (made h n a b c d u v) (made-val h vn va vb vc vd vu vv ∷ [])
+made-is h was n a b c d u v vn va vb vc vd vu vv n-is a-is b-is c-is d-is u-is v-is =
     let o = LL.owed T.the-type T′.the-laws h (LL.vals T.the-type T′.the-laws h) was in
-    let cs : Val = vstruct (vcons va (vcons vb (vcons vc (vcons vd (vcons vu vnil))))) in
-    (_, (refl, (o .0, (o .1 .0, (((vn ∷ [], (cs ∷ [], tt)), (refl, (n-is, (((va ∷ [], (vb ∷ [], (vc ∷ [], (vd ∷ [], (vu ∷ [], tt))))), (refl, (a-is, (b-is, (c-is, (d-is, (u-is, tt))))))), tt)))), tt)))))
+    let cs : Val = vstruct (vcons va (vcons vb (vcons vc (vcons vd (vcons vu (vcons vv vnil)))))) in
+    (_, (refl, (o .0, (o .1 .0, (((vn ∷ [], (cs ∷ [], tt)), (refl, (n-is, (((va ∷ [], (vb ∷ [], (vc ∷ [], (vd ∷ [], (vu ∷ [], (vv ∷ [], tt)))))), (refl, (a-is, (b-is, (c-is, (d-is, (u-is, (v-is, tt)))))))), tt)))), tt)))))
 
 module _ {M : Type 1} (𝓤 : URA M) (H : Heap 𝓤) (A : Atoms 𝓤) (F : ℕ → Region → Region) where
   abbrev pub saysLent : Clauses 𝓤 endedLent

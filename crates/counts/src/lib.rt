@@ -44,6 +44,7 @@ fn increase_refcount(r: &mut Region, rights: u64)
     r.values.counters.exec = plus(r.values.counters.exec, by.exec);
     r.values.counters.supervisor = plus(r.values.counters.supervisor, by.supervisor);
     r.values.counters.uncacheable = plus(r.values.counters.uncacheable, by.uncacheable);
+    r.values.counters.device = plus(r.values.counters.device, by.device);
 }
 
 // One holder less, and one less of each count that the rights name, or nothing where no holder is left: the Rust's
@@ -59,6 +60,7 @@ fn decrease_refcount(r: &mut Region, rights: u64)
     r.values.counters.exec = left(holders, r.values.counters.exec, by.exec);
     r.values.counters.supervisor = left(holders, r.values.counters.supervisor, by.supervisor);
     r.values.counters.uncacheable = left(holders, r.values.counters.uncacheable, by.uncacheable);
+    r.values.counters.device = left(holders, r.values.counters.device, by.device);
 }
 
 // The region with its counts raised.
