@@ -249,7 +249,7 @@ holds-set nx ws (t ∷ ts) (c ∷ cs) (suc k) c' h l e = (h .0, holds-set nx ws 
 -- a range that was accepted is one
 in-order : (a e : HostAddr) (k : ℕ) (x : Answer) → accepted (ranged a e k x) ≡ true → a .0 ≤ e .0
 unfolding ranged
-in-order a e k x h = leb-true (a .0) (e .0) (passed ((k <? 32, InvalidMemOps) ∷ (a .0 ≤? e .0, InvalidRange) ∷ []) _ h .0 .1 .0)
+in-order a e k x h = leb-true (a .0) (e .0) (passed ((k <? 64, InvalidMemOps) ∷ (a .0 ≤? e .0, InvalidRange) ∷ []) _ h .0 .1 .0)
 
 range-of : (a e : HostAddr) (k n : ℕ) (rs : List Region) → accepted (addOn n rs a e k) ≡ true → a .0 ≤ e .0
 unfolding addOn

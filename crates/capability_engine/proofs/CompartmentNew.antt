@@ -20,6 +20,7 @@ use Rattle.definitions.proofs.TableLaws.{shown-empty}
 use Rattle.capability_engine.specs.declared.region.RegionTracker.{RegionTracker}
 use Rattle.capability_engine.specs.declared.remapper.Remapper.{Remapper}
 use Rattle.capability_engine.specs.declared.compartments.Tables.{Tables}
+use Rattle.capability_engine.specs.PoolWords.{poolLen}
 use Rattle.capability_engine.specs.PoolChain.{cnt, slots, records}
 use Rattle.capability_engine.specs.PoolOwn.{heap, freeOf}
 use Rattle.capability_engine.specs.RemapHeld as remap
@@ -82,7 +83,7 @@ module _ (nx ws : List ℕ) (size : length nx ≡ 1025) (z : RegionTracker) (ez 
   unfolding after afterFrom start
   allowed-start = allowed-all 8
 
-  module _ (links gens : List ℕ) (arena : GenArena) (g : GrownArena 1024 links gens arena []) (lw : length ws ≡ 8192) where
+  module _ (links gens : List ℕ) (arena : GenArena) (g : GrownArena 1024 links gens arena []) (lw : length ws ≡ poolLen) where
     free-all : freeOf (heap links gens arena) ≡ upFrom 0 1024
     free-all = free-is (heap links gens arena) [] g
 
@@ -128,7 +129,7 @@ not-made words nx links gens t e b n =
     record { empty = e; bare = b; made = λ h. absurd (true≢false (sym h)); sized = λ s. absurd (n s); kept = λ _. (refl, refl) }
 
 module _ (words nx links gens links' gens' : List ℕ) (r : NewArena) (c : CreatesArena links links' gens gens' r) (ll : length links ≡ 1024) where
-  pub made-new : length words ≡ 8192 → length nx ≡ 1025 → (z : RegionTracker) → (z .head ≡ 1024) × (z .count ≡ 0) × (z .allowance ≡ 128) → (m : Remapper) → remap.Holds m [] → (arena : GenArena) → r ≡ Arena arena
+  pub made-new : length words ≡ poolLen → length nx ≡ 1025 → (z : RegionTracker) → (z .head ≡ 1024) × (z .count ≡ 0) × (z .allowance ≡ 128) → (m : Remapper) → remap.Holds m [] → (arena : GenArena) → r ≡ Arena arena
       → Creates words nx links gens links' gens' (record { tables = record { arena = arena; trackers = replicate 8 z; remappers = replicate 8 m }; done = true })
   made-new lw ln z ez m hm arena e = go (eqb (length links) (length gens)) refl
     where

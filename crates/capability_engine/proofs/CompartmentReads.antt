@@ -6,7 +6,7 @@ use lib.ListN.{length, getD}
 use borrow.Author.Tests.{lt-ltb, le-ltb}
 use Rattle.definitions.specs.Regions.{regions, refcountOf, permissionOf}
 use Rattle.definitions.specs.Stream.{stream}
-use Rattle.definitions.specs.Pages.{page, mappingGroup, permissionGroup, regionGroup, segmentGroup}
+use Rattle.definitions.specs.Pages.{page, mappingGroup, permissionGroup, regionGroup, segmentGroup, recordLen}
 use Rattle.definitions.specs.Reckoning.{Compartment, reckon, compartmentOf}
 use Rattle.definitions.specs.Questions.{accepted, onRefcount, onOverlaps}
 use Rattle.definitions.specs.Calls.{compartment, allowance, others, allowed, streamOf, streamGroups, permissionGroups, regionGroups, segmentGroups, answerIn, answer, after}
@@ -116,9 +116,9 @@ module _ (words nx links gens : List ℕ) (t : Tables) (calls : List Call) (g : 
       unfolding compartmentOf reckon allowed answerIn streamGroups streamOf
       streamed ss es from out out' n f = reads-page (Remap k from (length out)) lk (λ c. refl) (λ m. refl) 5 streamGroups from out out' n (rw (stored-are, es) at f) refl
 
-      pub regions-listed : (from : ℕ) (out out' : List ℕ) (n : ℕ) → Filled 8 (map regionGroup stored) from out out' n → ReadsList 8 regionGroups calls k from out out' (Accepted n)
+      pub regions-listed : (from : ℕ) (out out' : List ℕ) (n : ℕ) → Filled recordLen (map regionGroup stored) from out out' n → ReadsList recordLen regionGroups calls k from out out' (Accepted n)
       unfolding regionGroups
-      regions-listed from out out' n f = reads-list 8 regionGroups calls k from out out' n lk (rw stored-are at f)
+      regions-listed from out out' n f = reads-list recordLen regionGroups calls k from out out' n lk (rw stored-are at f)
 
     pub segments-listed : (ss : List Segment) → ss ≡ compartment (after calls) k .segments → (from : ℕ) (out out' : List ℕ) (n : ℕ)
         → Filled 4 (map segmentGroup ss) from out out' n → ReadsList 4 segmentGroups calls k from out out' (Accepted n)

@@ -4,13 +4,13 @@ use mathlib.Core.Path.{_≡_, refl, sym, _∙_}
 use mathlib.Core.List.{List, []}
 use lib.ListN.{getD, length}
 use Rattle.definitions.specs.declared.region.Region.{Region}
-use Rattle.capability_engine.specs.PoolWords.{regionAt}
+use Rattle.capability_engine.specs.PoolWords.{regionAt, poolLen}
 use Rattle.capability_engine.specs.PoolChain.{cnt, records}
 use Rattle.capability_engine.specs.PoolOwn.{Heap, IsHeap, freeOf, Own, Ready, recordsOf, Pass}
 use Rattle.capability_engine.proofs.PoolOwns.{own-mine, owned}
 
 module _ {nx m nx' m' : List ℕ} {fl fl' : Heap} (o : Own nx m (freeOf fl)) (q : Own nx' m' (freeOf fl')) (h : IsHeap fl') where
-  pub pass-of : (ws ws' : List ℕ) {rs : List Region} → length ws' ≡ 8192 → records ws' m' ≡ rs
+  pub pass-of : (ws ws' : List ℕ) {rs : List Region} → length ws' ≡ poolLen → records ws' m' ≡ rs
       → ((t : ℕ) → cnt t m' + cnt t (freeOf fl') ≡ cnt t m + cnt t (freeOf fl)) → length m' + length (freeOf fl') ≡ length m + length (freeOf fl)
       → ((t : ℕ) → t < 1024 → cnt t m + cnt t (freeOf fl) ≡ 0 → getD nx' t 0 ≡ getD nx t 0)
       → ((t : ℕ) → t < 1024 → cnt t m + cnt t (freeOf fl) ≡ 0 → regionAt ws' t ≡ regionAt ws t) → Pass nx ws fl nx' ws' fl' rs

@@ -7,9 +7,16 @@ use native.Mathlib.Decide.{decLt}
 use mathlib.Core.List.{List, [], _∷_, _++_}
 use native.Mathlib.Omega.{arith}
 use lib.ListN.{getD, length, set, length-set}
-use lib.Seq.{sets, length-sets, getD-set-same, getD-set-other}
+use native.Mathlib.Numerals.{towards-suc}
+use lib.Seq.{sets, length-sets, getD-set-same, getD-set-other, set-getD}
+use borrow.Author.Tests.{ltb-true}
+use Rattle.definitions.specs.Tests.{_<?_}
+use Rattle.definitions.specs.Rights.{Right, RIGHTS, countersOf}
+use Rattle.definitions.specs.Pages.{regionGroup, recordLen}
 use Rattle.definitions.specs.declared.region.Region.{Region}
-use Rattle.capability_engine.specs.PoolWords.{regionAt, wordsOf, putRegion}
+use Rattle.definitions.proofs.RightLaws.{each-right}
+use Rattle.definitions.proofs.PageLaws.{record-long}
+use Rattle.capability_engine.specs.PoolWords.{poolLen, place, regionAt, putRegion}
 use Rattle.capability_engine.specs.PoolChain.{cnt, records}
 use Rattle.capability_engine.proofs.PoolLinks.{bit-same}
 
@@ -27,27 +34,35 @@ sets-in (v ∷ vs) ws b zero l f =
 sets-in (v ∷ vs) ws b (suc d) l f =
     rw (add-suc b d, ← suc-add b d) (sets-in vs (set ws b v) (suc b) d (omega arith) (simp length-set (omega arith)))
 
+-- the counts lie among a record's words
+place-low : (t : Right) → place t < recordLen
+unfolding RIGHTS
+place-low t = ltb-true (place t) recordLen (each-right (λ t. place t <? recordLen) refl t)
+
 -- the words of slot j stay, where another is written
-far : (ws : List ℕ) (i : ℕ) (r : Region) (j d : ℕ) → j ≢ i → d < 8 → getD (putRegion ws i r) (8 * j + d) 0 ≡ getD ws (8 * j + d) 0
+far : (ws : List ℕ) (i : ℕ) (r : Region) (j d : ℕ) → j ≢ i → d < recordLen
+    → getD (putRegion ws i r) (recordLen * j + d) 0 ≡ getD ws (recordLen * j + d) 0
 unfolding putRegion
 far ws i r j d n l =
-    sets-out (wordsOf r) ws (8 * i) (8 * j + d)
-    (elim (decLt j i) [ yes q ↦ inl (omega arith) | no q ↦ inr (omega arith) ])
+    sets-out (regionGroup r) ws (recordLen * i) (recordLen * j + d)
+    (elim (decLt j i) [ yes q ↦ inl (omega arith) | no q ↦ inr (omega (arith, record-long r)) ])
 
-far-0 : (ws : List ℕ) (i : ℕ) (r : Region) (j : ℕ) → j ≢ i → getD (putRegion ws i r) (8 * j) 0 ≡ getD ws (8 * j) 0
+far-0 : (ws : List ℕ) (i : ℕ) (r : Region) (j : ℕ) → j ≢ i → getD (putRegion ws i r) (recordLen * j) 0 ≡ getD ws (recordLen * j) 0
 far-0 ws i r j n = rw add-zero at (far ws i r j 0 n (omega arith))
 
 -- word d of slot i is the region's
-near : (ws : List ℕ) (i : ℕ) (r : Region) (d : ℕ) → i < 1024 → length ws ≡ 8192 → d < 8 → getD (putRegion ws i r) (8 * i + d) 0 ≡ getD (wordsOf r) d 0
+near : (ws : List ℕ) (i : ℕ) (r : Region) (d : ℕ) → i < 1024 → length ws ≡ poolLen → d < recordLen
+    → getD (putRegion ws i r) (recordLen * i + d) 0 ≡ getD (regionGroup r) d 0
 unfolding putRegion
-near ws i r d l s k = sets-in (wordsOf r) ws (8 * i) d k (omega arith)
+near ws i r d l s k =
+    sets-in (regionGroup r) ws (recordLen * i) d (omega (arith, record-long r)) (omega (arith, record-long r))
 
-near-0 : (ws : List ℕ) (i : ℕ) (r : Region) → i < 1024 → length ws ≡ 8192 → getD (putRegion ws i r) (8 * i) 0 ≡ r .start .0
+near-0 : (ws : List ℕ) (i : ℕ) (r : Region) → i < 1024 → length ws ≡ poolLen → getD (putRegion ws i r) (recordLen * i) 0 ≡ r .start .0
 near-0 ws i r l s = rw add-zero at (near ws i r 0 l s (omega arith))
 
 pub length-put : (ws : List ℕ) (i : ℕ) (r : Region) → length (putRegion ws i r) ≡ length ws
 unfolding putRegion
-length-put ws i r = length-sets ws (8 * i) (wordsOf r)
+length-put ws i r = length-sets ws (recordLen * i) (regionGroup r)
 
 pub at-put-other : (ws : List ℕ) (i : ℕ) (r : Region) (j : ℕ) → j ≢ i → regionAt (putRegion ws i r) j ≡ regionAt ws j
 unfolding regionAt
@@ -56,32 +71,36 @@ at-put-other ws i r j n = λ k. record {
   end = record { 0 = far ws i r j 1 n (omega arith) k };
   values = record {
     refcount = far ws i r j 2 n (omega arith) k;
-    counters = record {
-      read = far ws i r j 3 n (omega arith) k;
-      write = far ws i r j 4 n (omega arith) k;
-      exec = far ws i r j 5 n (omega arith) k;
-      supervisor = far ws i r j 6 n (omega arith) k;
-      uncacheable = far ws i r j 7 n (omega arith) k;
-    };
+    counters = countersOf (λ t. far ws i r j (place t) n (place-low t) k);
   };
 }
 
-pub at-put-same : (ws : List ℕ) (i : ℕ) (r : Region) → i < 1024 → length ws ≡ 8192 → regionAt (putRegion ws i r) i ≡ r
-unfolding regionAt
+pub at-put-same : (ws : List ℕ) (i : ℕ) (r : Region) → i < 1024 → length ws ≡ poolLen → regionAt (putRegion ws i r) i ≡ r
+unfolding regionAt RIGHTS
 at-put-same ws i r l s = λ k. record {
   start = record { 0 = near-0 ws i r l s k };
   end = record { 0 = near ws i r 1 l s (omega arith) k };
   values = record {
     refcount = near ws i r 2 l s (omega arith) k;
-    counters = record {
-      read = near ws i r 3 l s (omega arith) k;
-      write = near ws i r 4 l s (omega arith) k;
-      exec = near ws i r 5 l s (omega arith) k;
-      supervisor = near ws i r 6 l s (omega arith) k;
-      uncacheable = near ws i r 7 l s (omega arith) k;
-    };
+    counters = countersOf (λ t. near ws i r (place t) l s (place-low t) k);
   };
 }
+
+-- a region that is written where it is changes nothing
+abbrev wordsFrom : List ℕ → ℕ → ℕ → List ℕ
+wordsFrom ws b zero = []
+wordsFrom ws b (suc n) = getD ws b 0 ∷ wordsFrom ws (suc b) n
+
+sets-own : (ws : List ℕ) (b n : ℕ) → sets ws b (wordsFrom ws b n) ≡ ws
+sets-own ws b zero = refl
+sets-own ws b (suc n) = ap (λ l. sets l (suc b) (wordsFrom ws (suc b) n)) (set-getD ws b 0) ∙ sets-own ws (suc b) n
+
+put-own : (ws : List ℕ) (i : ℕ) → putRegion ws i (regionAt ws i) ≡ ws
+unfolding putRegion regionAt RIGHTS
+put-own ws i = simp towards-suc (sets-own ws (recordLen * i) recordLen)
+
+pub put-there : (ws : List ℕ) (i : ℕ) (r : Region) → r ≡ regionAt ws i → ws ≡ putRegion ws i r
+put-there ws i r e = rw (e, put-own ws i)
 
 -- the records read along slots: only those slots matter
 pub records-frame : (ws wt : List ℕ) (ss : List ℕ) → ((t : ℕ) → 1 ≤ cnt t ss → regionAt wt t ≡ regionAt ws t) → records wt ss ≡ records ws ss

@@ -8,7 +8,7 @@ use lib.ListN.{length, length-append}
 use lib.Dec.{eqb}
 use Rattle.definitions.specs.declared.region.Region.{Region}
 use Rattle.definitions.specs.Tests.{bit}
-use Rattle.capability_engine.specs.PoolWords.{putRegion}
+use Rattle.capability_engine.specs.PoolWords.{putRegion, poolLen}
 use Rattle.capability_engine.specs.PoolChain.{cnt, last, records}
 use Rattle.capability_engine.specs.PoolOwn.{Heap, IsHeap, freeOf, Own, linked, unlinked, Popped, Pushed, Pass}
 use Rattle.capability_engine.proofs.PoolLinks.{seg-second, bit-same, bit-other, bit-apart, cnt-append, cnt-last}
@@ -17,7 +17,7 @@ use Rattle.capability_engine.proofs.PoolOwns.{own-insert, own-remove, o
 use Rattle.capability_engine.proofs.PoolPasses.{pass-of}
 
 -- the region of slot s is written over
-module _ (nx ws : List ℕ) (fl : Heap) (pre post : List ℕ) (s : ℕ) (r : Region) (o : Own nx (pre ++ s ∷ post) (freeOf fl)) (h : IsHeap fl) (lw : length ws ≡ 8192) where
+module _ (nx ws : List ℕ) (fl : Heap) (pre post : List ℕ) (s : ℕ) (r : Region) (o : Own nx (pre ++ s ∷ post) (freeOf fl)) (h : IsHeap fl) (lw : length ws ≡ poolLen) where
   pub put-records : records (putRegion ws s r) (pre ++ s ∷ post) ≡ records ws pre ++ r ∷ records ws post
   put-records =
       let us = o .once s in
@@ -33,7 +33,7 @@ module _ (nx ws : List ℕ) (fl : Heap) (pre post : List ℕ) (s : ℕ) (r : Reg
       (λ t l z. at-put-other ws s r t (bit-apart t s (omega (arith, cnt-append t pre (s ∷ post)))))
 
 -- the first free slot goes in after pre, with the region r
-module _ (nx ws : List ℕ) (fl fl' : Heap) (pre post : List ℕ) (n : ℕ) (r : Region) (o : Own nx (pre ++ post) (freeOf fl)) (p : Popped fl n fl') (lw : length ws ≡ 8192) where
+module _ (nx ws : List ℕ) (fl fl' : Heap) (pre post : List ℕ) (n : ℕ) (r : Region) (o : Own nx (pre ++ post) (freeOf fl)) (p : Popped fl n fl') (lw : length ws ≡ poolLen) where
   o′ : Own nx (pre ++ post) (n ∷ freeOf fl')
   o′ = rw (p .free) at o
 
@@ -63,7 +63,7 @@ module _ (nx ws : List ℕ) (fl fl' : Heap) (pre post : List ℕ) (n : ℕ) (r :
       (λ t l z. at-put-other ws n r t (bit-apart t n (omega (arith, count-free t))))
 
 -- the slot after pre goes
-module _ (nx ws : List ℕ) (fl fl' : Heap) (pre post : List ℕ) (s : ℕ) (o : Own nx (pre ++ s ∷ post) (freeOf fl)) (p : Pushed fl s fl') (lw : length ws ≡ 8192) where
+module _ (nx ws : List ℕ) (fl fl' : Heap) (pre post : List ℕ) (s : ℕ) (o : Own nx (pre ++ s ∷ post) (freeOf fl)) (p : Pushed fl s fl') (lw : length ws ≡ poolLen) where
   count-freed : (t : ℕ) → cnt t (freeOf fl') ≡ bit (eqb t s) + cnt t (freeOf fl)
   count-freed t = ap (cnt t) (p .free)
 

@@ -7,7 +7,7 @@ use mathlib.Core.List.{List, [], _∷_, _++_, append-assoc}
 use native.Mathlib.Omega.{arith}
 use lib.ListN.{getD, length, length-append, length-map}
 use Rattle.definitions.specs.declared.region.Region.{Region}
-use Rattle.capability_engine.specs.PoolWords.{regionAt, putRegion}
+use Rattle.capability_engine.specs.PoolWords.{regionAt, putRegion, poolLen}
 use Rattle.capability_engine.specs.PoolChain.{last, slots, records, Listed}
 use Rattle.capability_engine.specs.PoolOwn.{Heap, freeOf, Own, Ready, Room, mineOf, recordsOf, linked, unlinked, Popped, Pushed, Pass, CanInsert, InsertsRegion, CanRemove}
 use Rattle.capability_engine.proofs.PoolLinks.{seg-second, bit-same, cnt-append, slots-are, opened, closed}
@@ -150,7 +150,7 @@ module _ {nx0 ws0 nx ws : List ℕ} {fl0 fl : Heap} {q : ℕ} {G : List Region �
   pub zat-put : (ws' : List ℕ) (x : ℕ) (r : Region) (G' : List Region → List Region) (z : ZipAt nx0 ws0 fl0 nx ws fl q x G rs) → ws' ≡ putRegion ws x r
       → ((t : List Region) → G (regionAt ws x ∷ t) ≡ r ∷ G' t) → Zip nx0 ws0 fl0 nx ws' fl x G' rs × (ahead nx x < ahead nx q)
   zat-put ws' x r G' z ew e =
-      let lw : length ws ≡ 8192 = z .pass .ready .words in
+      let lw : length ws ≡ poolLen = z .pass .ready .words in
       let l : last 1024 (z .pre ++ x ∷ []) ≡ x = last-snoc 1024 (z .pre) x in
       let o = zat-snoc x z in
       let a : ahead nx x ≡ length (z .post) = rw l at (ahead-is (z .pre ++ x ∷ []) (z .post) o) in
@@ -187,7 +187,7 @@ module _ {nx0 ws0 nx ws : List ℕ} {fl0 fl : Heap} {q : ℕ} {G : List Region �
   pub zat-remove : (nx' : List ℕ) (fl' : Heap) (x : ℕ) (G' : List Region → List Region) (z : ZipAt nx0 ws0 fl0 nx ws fl q x G rs) → nx' ≡ unlinked nx q → Pushed fl x fl'
       → ((t : List Region) → G (regionAt ws x ∷ t) ≡ G' t) → Zip nx0 ws0 fl0 nx' ws fl' q G' rs × (ahead nx' q < ahead nx q)
   zat-remove nx' fl' x G' z ex p e =
-      let lw : length ws ≡ 8192 = z .pass .ready .words in
+      let lw : length ws ≡ poolLen = z .pass .ready .words in
       let o' = removed-own nx ws fl fl' (z .pre) (z .post) x (z .own) p lw in
       let a = ahead-is (z .pre) (z .post) o' in
       rw (ex, z .here) (
@@ -231,7 +231,7 @@ module _ {nx0 ws0 nx ws : List ℕ} {fl0 fl : Heap} {q : ℕ} {G : List Region �
         → ws' ≡ putRegion ws x r → nx' ≡ unlinked nx x → Pushed fl y fl'
         → ((t : List Region) → G (regionAt ws x ∷ regionAt ws y ∷ t) ≡ G' (r ∷ t)) → Zip nx0 ws0 fl0 nx' ws' fl' q G' rs × (ahead nx' q < ahead nx q)
     zat-join nx' ws' fl' r G' ew ex p e =
-        let lw : length ws ≡ 8192 = z .pass .ready .words in
+        let lw : length ws ≡ poolLen = z .pass .ready .words in
         let l : last 1024 (z .pre ++ x ∷ []) ≡ x = last-snoc 1024 (z .pre) x in
         let w1 : List ℕ = putRegion ws x r in
         let p1 = pass-put nx ws fl (z .pre) (y ∷ rest) x r two (z .pass .ready .heap) lw in
@@ -264,7 +264,7 @@ module _ {nx0 ws0 nx ws : List ℕ} {fl0 fl : Heap} {q : ℕ} {G : List Region �
       → InsertsRegion nx ws fl q n r nx' ws' fl'
       → G (records ws (z .cur)) ≡ r ∷ G' (records ws (z .cur)) → ZipOf nx0 ws0 fl0 nx' ws' fl' n G' rs (z .cur) (records ws (z .cur)) (ahead nx q)
   zip-insert nx' ws' fl' n r G' z i e =
-      let lw : length ws ≡ 8192 = z .pass .ready .words in
+      let lw : length ws ≡ poolLen = z .pass .ready .words in
       let p : Popped fl n fl' = i .popped in
       let o : Own nx ((z .pre) ++ (z .cur)) (n ∷ freeOf fl') = rw (p .free) at (z .own) in
       let o1 = own-insert nx (z .pre) (z .cur) n (freeOf fl') o in

@@ -54,8 +54,10 @@ pub asked-some : (t p q a b c : Bool) → a ≡ (not t || q) → b ≡ (p || not
 asked-some true p q a b c ea eb ec = ec ∙ eb ∙ ap (λ x. p || not x) ea
 asked-some false p q a b c ea eb ec = ec
 
-pub every-is : (rights : ℕ) (c : Counters) (p q s t u a b d e f g h i j : Bool) → c ≡ asCounters (record { 0 = rights })
-    → a ≡ ((c .read =? 0) || p) → b ≡ ((c .write =? 0) || q) → d ≡ ((c .exec =? 0) || s) → e ≡ ((c .supervisor =? 0) || t) → f ≡ ((c .uncacheable =? 0) || u)
-    → g ≡ (e && f) → h ≡ (d && g) → i ≡ (b && h) → j ≡ (a && i) → j ≡ everyOf rights p q s t u
+pub every-is : (rights : ℕ) (c : Counters) (p q s t u v a b d e f g h i j k l : Bool) → c ≡ asCounters (record { 0 = rights })
+    → a ≡ ((c .read =? 0) || p) → b ≡ ((c .write =? 0) || q) → d ≡ ((c .exec =? 0) || s) → e ≡ ((c .supervisor =? 0) || t)
+    → f ≡ ((c .uncacheable =? 0) || u) → g ≡ ((c .device =? 0) || v)
+    → h ≡ (f && g) → i ≡ (e && h) → j ≡ (d && i) → k ≡ (b && j) → l ≡ (a && k) → l ≡ everyOf rights p q s t u v
 unfolding everyOf asCounters
-every-is rights c p q s t u a b d e f g h i j ec ea eb ed ee ef eg eh ei ej = rw (ej, ei, eh, eg, ea, eb, ed, ee, ef, ec) (simp and-true)
+every-is rights c p q s t u v a b d e f g h i j k l ec ea eb ed ee ef eg eh ei ej ek el =
+    rw (el, ek, ej, ei, eh, ea, eb, ed, ee, ef, eg, ec) (simp and-true)

@@ -302,7 +302,7 @@ module _ (nx ws : List ℕ) (fl : Heap) (head : ℕ) (t : Tracked nx ws fl head)
       passed-add : (a .0 < e .0) × (length (storedAt nx ws head) + newRecordsOn a e (storedAt nx ws head) ≤ length (storedAt nx ws head) + room)
       unfolding addOn ranged
       passed-add =
-          let p = passed ((k <? 32, InvalidMemOps) ∷ (a .0 ≤? e .0, InvalidRange) ∷ []) _ (yes-of _ ea) in
+          let p = passed ((k <? 64, InvalidMemOps) ∷ (a .0 ≤? e .0, InvalidRange) ∷ []) _ (yes-of _ ea) in
           let l : a .0 ≤ e .0 = leb-true (a .0) (e .0) (p .0 .1 .0) in
           let q = passed ((canRaiseOn a e k (storedAt nx ws head), CountFull) ∷ (length (storedAt nx ws head) + newRecordsOn a e (storedAt nx ws head) ≤? length (storedAt nx ws head) + room, OutOfMemory) ∷ []) _ (rw (ne-eqb (a .0) (e .0) ne) at (p .1)) in
           (omega arith, leb-true (length (storedAt nx ws head) + newRecordsOn a e (storedAt nx ws head)) (length (storedAt nx ws head) + room) (q .0 .1 .0))
@@ -334,7 +334,7 @@ module _ (nx ws : List ℕ) (fl : Heap) (head : ℕ) (t : Tracked nx ws fl head)
       unfolding removeOn ranged
       passed-remove =
           let rs : List Region = storedAt nx ws head in
-          let p = passed ((k <? 32, InvalidMemOps) ∷ (a .0 ≤? e .0, InvalidRange) ∷ []) _ (yes-of _ ea) in
+          let p = passed ((k <? 64, InvalidMemOps) ∷ (a .0 ≤? e .0, InvalidRange) ∷ []) _ (yes-of _ ea) in
           let l : a .0 ≤ e .0 = leb-true (a .0) (e .0) (p .0 .1 .0) in
           let q = passed ((1 ≤? length (begun a rs), InvalidRegion) ∷ (a .0 <? lastEnd 0 (begun a rs), EndedBefore) ∷ (cutsFit (length rs) (length rs + room) a e rs, OutOfMemory) ∷ (canLower a e k rs, CountEmpty) ∷ []) _ (rw (ne-eqb (a .0) (e .0) ne) at (p .1)) in
           (omega arith, q .0 .1 .1 .0)

@@ -179,11 +179,11 @@ module _ {nx0 ws0 nx ws : List ℕ} {fl0 fl : Heap} {q : ℕ} {rs : List Region}
     pub join-asks : CanRemove nx fl x
     join-asks = join-removes x y at-xy ey ly
 
-    pub join-two : (nx' ws' : List ℕ) (fl' : Heap) (r : Region) → f ≡ true → r ≡ region (a .start) (b .end) (b .values) → ws' ≡ putRegion ws x r → Removes nx fl x nx' fl'
+    pub join-two : (nx' ws' : List ℕ) (fl' : Heap) (r : Region) → f ≡ true → r ≡ region (a .start) (b .end) (a .values) → ws' ≡ putRegion ws x r → Removes nx fl x nx' fl'
         → Zip nx0 ws0 fl0 nx' ws' fl' q joined rs × (ahead nx' q < ahead nx q)
     join-two nx' ws' fl' r e er ew m =
         zat-join x y at-xy ey ly nx' ws' fl' r joined ew (m .link) (rw (← ey) at (m .pushed))
-        (λ t. join-yes (regionAt ws x) (regionAt ws y) (rw (ef, ea, eb) at e) t ∙ rw (er, ea, eb))
+        (λ t. join-yes (regionAt ws x) (regionAt ws y) (rw (ef, ea, eb) at e) t ∙ rw (er, joins-facts a b (sym ef ∙ e) .1, ea, eb))
 
 -- ---- raising
 
@@ -202,6 +202,11 @@ one-in f a e r b eb h s es = rw (← eb, h) es
 pub one-out : (f : Values → Values) (a e : HostAddr) (r : Region) (b : Bool) → b ≡ within a e r → b ≡ false → r ≡ changedOne f a e r
 unfolding changedOne
 one-out f a e r b eb h = rw (← eb, h)
+
+-- so what comes of it is there already
+pub one-stays : (f : Values → Values) (a e : HostAddr) (r s q : Region) → r ≡ q → s ≡ changedOne f a e r → within a e r ≡ false → s ≡ q
+unfolding changedOne
+one-stays f a e r s q er es d = es ∙ rw d er
 
 pub small-in : (f : Values → Values) (a e : HostAddr) (r : Region) (b : Bool) → b ≡ within a e r → b ≡ true → Small (changedOne f a e r .values) → Small (f (r .values))
 unfolding changedOne region
@@ -413,7 +418,7 @@ unfolding region
 split-done nx ws w1 fl s x y r nx' ws' fl' er ew i = rw (ew, er) at i
 
 pub gap-made : (nx ws : List ℕ) (fl : Heap) (q x : ℕ) (a e : HostAddr) (nx' ws' : List ℕ) (fl' : Heap) → a .0 < e .0
-    → InsertsRegion nx ws fl q x (record { start = a; end = e; values = record { refcount = 0; counters = record { read = 0; write = 0; exec = 0; supervisor = 0; uncacheable = 0 } } }) nx' ws' fl'
+    → InsertsRegion nx ws fl q x (record { start = a; end = e; values = record { refcount = 0; counters = countersOf (λ t. 0) } }) nx' ws' fl'
     → PutsGap nx ws fl q a e nx' ws' fl'
 unfolding region nothing
 gap-made nx ws fl q x a e nx' ws' fl' l i = record { some = λ _. (x, i); none = λ m. absurd (omega arith) }

@@ -8,10 +8,8 @@ use native.Mathlib.Numerals.{add-one}
 use lib.ListN.{length, take, drop, length-append, length-drop, length-map, drop-of-length-le}
 use lib.Seq.{sets, sets-eq, take-at, drop-drop, drop-append-add, take-all, length-take-le}
 use Rattle.definitions.specs.Tests.{each}
-use Rattle.definitions.specs.Rights.{RIGHTS}
-use Rattle.definitions.specs.Pages.{page, filled, mappingGroup, permissionGroup, regionGroup, segmentGroup}
+use Rattle.definitions.specs.Pages.{page, filled, mappingGroup, permissionGroup, segmentGroup}
 use Rattle.definitions.specs.declared.region.MemoryPermission.{MemoryPermission}
-use Rattle.definitions.specs.declared.region.Region.{Region}
 use Rattle.definitions.specs.declared.remapper.Mapping.{Mapping}
 use Rattle.definitions.specs.declared.remapper.Segment.{Segment}
 use Rattle.definitions.proofs.PageLaws.{Wide, wide-map}
@@ -152,10 +150,6 @@ five m = refl
 pub three : (p : MemoryPermission) → length (permissionGroup p) ≡ 3
 unfolding permissionGroup
 three p = refl
-
-pub eight : (r : Region) → length (regionGroup r) ≡ 8
-unfolding RIGHTS
-eight r = refl
 
 pub four : (s : Segment) → length (segmentGroup s) ≡ 4
 unfolding segmentGroup

@@ -18,6 +18,7 @@ use Rattle.definitions.specs.declared.region.Region.{Region}
 use Rattle.definitions.specs.declared.remapper.Segment.{Segment}
 use Rattle.definitions.specs.declared.remapper.Mapping.{Mapping}
 use Rattle.capability_engine.specs.declared.stream.RemapCursor.{RemapCursor}
+use Rattle.definitions.specs.Pages.{recordLen}
 use Rattle.capability_engine.specs.PoolWords.{regionAt}
 use Rattle.capability_engine.specs.StreamCursor.{goesOn, Met, runs}
 use Rattle.capability_engine.specs.declared.stream.Turn.the-variants.{Yields, Skips}
@@ -28,7 +29,7 @@ after-end to end here nxt e = simp (eq-eqb to end e)
 pub after-not : (to end here nxt : ℕ) → (to ≡ end → ⊥) → here ≡ (if to =? end then nxt else here)
 after-not to end here nxt e = simp (ne-eqb to end e)
 
-pub on-here : (ws : List ℕ) (c : RemapCursor) → c .ongoing < 1024 → ltb (getD ws (8 * c .ongoing) 0) (c .end .0) ≡ goesOn ws c
+pub on-here : (ws : List ℕ) (c : RemapCursor) → c .ongoing < 1024 → ltb (getD ws (recordLen * c .ongoing) 0) (c .end .0) ≡ goesOn ws c
 unfolding goesOn regionAt
 on-here ws c l = simp (lt-ltb (c .ongoing) 1024 l)
 

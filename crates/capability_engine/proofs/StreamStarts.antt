@@ -12,6 +12,7 @@ use Rattle.definitions.proofs.RunLaws.{EndBy}
 use Rattle.definitions.proofs.SegmentLaws.{AllGood}
 use Rattle.definitions.specs.declared.region.Region.{Region}
 use Rattle.definitions.specs.declared.remapper.Segment.{Segment}
+use Rattle.capability_engine.specs.PoolWords.{poolLen}
 use Rattle.capability_engine.specs.PoolChain.{slots, Listed, records, storedAt}
 use Rattle.capability_engine.specs.declared.stream.RemapCursor.{RemapCursor}
 use Rattle.capability_engine.specs.StreamFlow.{flow}
@@ -82,6 +83,6 @@ whole-of {nx} {ws} {h} {ss} {rs} l e r b =
       k,
     )
 
-pub table-of : {ws sg : List ℕ} {n : ℕ} {ss : List Segment} → length ws ≡ 8192 → n ≤ 64 → 4 * n ≤ length sg → segmentsFrom sg 0 n ≡ ss → AllGood ss
+pub table-of : {ws sg : List ℕ} {n : ℕ} {ss : List Segment} → length ws ≡ poolLen → n ≤ 64 → 4 * n ≤ length sg → segmentsFrom sg 0 n ≡ ss → AllGood ss
     → inOrder ss ≡ true → Table ws sg n
 table-of w f r e g o = record { words = w; few = f; room = r; good = rw e g; order = rw e o }

@@ -21,6 +21,7 @@ use Rattle.definitions.specs.declared.call.Call.{Call}
 use Rattle.definitions.specs.declared.remapper.Mapping.{Mapping}
 use Rattle.definitions.proofs.PageLaws.{wide-map, page-rest, last-page, read-length}
 use Rattle.definitions.proofs.StreamLaws.{agrees}
+use Rattle.definitions.proofs.GivenBack.{gives-back}
 use Rattle.definitions.proofs.Reckoned.{reckoned}
 use Rattle.definitions.proofs.Stored.{stored}
 use Rattle.definitions.proofs.Independence.{independent, same-answer}
@@ -191,6 +192,7 @@ module _ (m : Memory) (calls : List Call) (g : GrownBy m calls) (k : ℕ) (l : k
     byPages = λ got p. by-pages p ∙ numbers 0;
     byCursor = λ found p. by-cursor p;
     agrees = λ x small. agrees x small mine (stored calls k .blank);
+    back = λ x small. gives-back x mine (streamOf mine) (agrees x small mine (stored calls k .blank)) (stored calls k .blank x);
     paged = λ from got p.
         let i = paged-is p in
         (rw as-many at (i .0), ap (λ (t : List ℕ). got ++ t) (sym (numbers from)) ∙ i .1 ∙ numbers 0);

@@ -21,6 +21,7 @@ use Rattle.capability_engine.specs.declared.remapper.Remapper.{Remapper}
 use Rattle.capability_engine.specs.declared.compartments.Tables.{Tables}
 use Rattle.capability_engine.specs.declared.compartments.Outcome.{Outcome}
 use Rattle.capability_engine.specs.declared.compartments.Created.{Created}
+use Rattle.capability_engine.specs.PoolWords.{poolLen}
 use Rattle.capability_engine.specs.PoolChain.{cnt, slots, Listed, storedAt}
 use Rattle.capability_engine.specs.PoolOwn.{heap, IsHeap, freeOf}
 use Rattle.capability_engine.specs.RemapHeld as remap
@@ -63,7 +64,7 @@ trackersOf t = record { arena = t .arena; list = t .trackers }
 -- 1,024 slots is in one list or free; and each tracker is allowed what they left it
 pub record Pooled (words next links gens : List ℕ) (t : Trackers) (calls : List Call) : Type 0 where
   pub nextSize : length next ≡ 1025
-  pub wordsSize : length words ≡ 8192
+  pub wordsSize : length words ≡ poolLen
   pub arena : IsHeap (heap links gens (t .arena))
   pub holds : Holds next words (t .list) (after calls .compartments)
   pub allowed : allowancesOf (t .list) ≡ after calls .allowances
@@ -122,7 +123,7 @@ pub record ReadsList (width : ℕ) (groups : Compartment → List (List ℕ)) (c
 
 -- the slices have the lengths of a pool
 abbrev pub Sized : List ℕ → List ℕ → List ℕ → List ℕ → Type 0
-Sized words next links gens = (length words ≡ 8192) × (length next ≡ 1025) × (length links ≡ 1024) × (length gens ≡ 1024)
+Sized words next links gens = (length words ≡ poolLen) × (length next ≡ 1025) × (length links ≡ 1024) × (length gens ≡ 1024)
 
 -- eight empty compartments, each allowed 128 records, and all slots free
 abbrev pub noTrackers : Trackers

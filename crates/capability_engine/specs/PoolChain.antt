@@ -8,7 +8,7 @@ use lib.Dec.{ltb, eqb}
 use Rattle.definitions.specs.Tests.{if_then_else_, bit}
 use Rattle.definitions.specs.declared.addr.HostAddr.{HostAddr}
 use Rattle.definitions.specs.declared.region.Region.{Region}
-use Rattle.capability_engine.specs.PoolWords.{regionAt}
+use Rattle.capability_engine.specs.PoolWords.{regionAt, poolLen}
 use Rattle.capability_engine.specs.declared.region.Skipped.{Skipped}
 
 -- from h the links go through the slots ss in order, and then to k
@@ -48,7 +48,7 @@ pub record Listed (nx : List ℕ) (h : ℕ) (ss : List ℕ) : Type 0 where
 -- the list from h is one, and its regions can be read
 pub record Walkable (nx ws : List ℕ) (h : ℕ) : Type 0 where
   pub listed : Listed nx h (slots nx h)
-  pub words : length ws ≡ 8192
+  pub words : length ws ≡ poolLen
 
 -- the regions of the list that begins at h
 abbrev pub storedAt : List ℕ → List ℕ → ℕ → List Region

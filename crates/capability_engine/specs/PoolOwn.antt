@@ -10,7 +10,7 @@ use Rattle.definitions.specs.Regions.{region}
 use Rattle.gen_arena.specs.declared.GenArena.{GenArena}
 use Rattle.gen_arena.specs.Arena.{ArenaCall}
 use Rattle.gen_arena.specs.Grown.{GrownArena}
-use Rattle.capability_engine.specs.PoolWords.{regionAt, putRegion}
+use Rattle.capability_engine.specs.PoolWords.{regionAt, putRegion, poolLen}
 use Rattle.capability_engine.specs.PoolChain.{Seg, cnt, last, slots, records, All, Listed}
 use Rattle.capability_engine.specs.declared.region.Outside.{Outside}
 
@@ -84,7 +84,7 @@ Owned nx fl = Own nx (mineOf nx) (freeOf fl)
 pub record Ready (nx ws : List ℕ) (fl : Heap) : Type 0 where
   pub own : Owned nx fl
   pub heap : IsHeap fl
-  pub words : length ws ≡ 8192
+  pub words : length ws ≡ poolLen
 
 -- so many regions fit: the slots of the list and the free ones
 abbrev pub Room : List ℕ → Heap → List Region → Type 0

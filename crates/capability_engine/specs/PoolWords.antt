@@ -1,31 +1,34 @@
--- A region lies in eight words, from 8 * i on. `regionAt` reads it, `putRegion` writes it.
+-- A region lies in the words from recordLen * i on. `regionAt` reads it, `putRegion` writes it.
 use Prim.Native.Nat.{ℕ, _+_, _*_}
-use mathlib.Core.List.{List, [], _∷_}
+use mathlib.Core.List.{List}
 use lib.ListN.{getD}
 use lib.Seq.{sets}
+use Rattle.definitions.specs.Rights.{Right, READ, WRITE, EXEC, SUPER, UNCACHEABLE, DEVICE, countersOf}
+use Rattle.definitions.specs.Pages.{regionGroup, recordLen}
 use Rattle.definitions.specs.declared.region.Region.{Region}
+
+-- the words of the 1,024 records
+abbrev pub poolLen : ℕ
+poolLen = 1024 * recordLen
+
+-- which of a record's words is a right's count
+abbrev pub place : Right → ℕ
+place READ = 3
+place WRITE = 4
+place EXEC = 5
+place SUPER = 6
+place UNCACHEABLE = 7
+place DEVICE = 8
 
 unfoldable pub regionAt : List ℕ → ℕ → Region
 regionAt ws i = record {
-  start = record { 0 = getD ws (8 * i) 0 };
-  end = record { 0 = getD ws (8 * i + 1) 0 };
+  start = record { 0 = getD ws (recordLen * i) 0 };
+  end = record { 0 = getD ws (recordLen * i + 1) 0 };
   values = record {
-    refcount = getD ws (8 * i + 2) 0;
-    counters = record {
-      read = getD ws (8 * i + 3) 0;
-      write = getD ws (8 * i + 4) 0;
-      exec = getD ws (8 * i + 5) 0;
-      supervisor = getD ws (8 * i + 6) 0;
-      uncacheable = getD ws (8 * i + 7) 0;
-    };
+    refcount = getD ws (recordLen * i + 2) 0;
+    counters = countersOf (λ t. getD ws (recordLen * i + place t) 0);
   };
 }
 
--- the eight words of a region
-abbrev pub wordsOf : Region → List ℕ
-wordsOf r =
-    r .start .0 ∷ r .end .0 ∷ r .values .refcount ∷ r .values .counters .read ∷ r .values .counters .write
-    ∷ r .values .counters .exec ∷ r .values .counters .supervisor ∷ r .values .counters .uncacheable ∷ []
-
 unfoldable pub putRegion : List ℕ → ℕ → Region → List ℕ
-putRegion ws i r = sets ws (8 * i) (wordsOf r)
+putRegion ws i r = sets ws (recordLen * i) (regionGroup r)

@@ -5,7 +5,7 @@ use mathlib.Core.Bool.{Bool, true, false, not, _&&_, _||_}
 use mathlib.Core.List.{List, [], _∷_}
 use lib.ListN.{getD, set, length}
 use Rattle.definitions.specs.Tests.{_<?_, _≤?_, _=?_, if_then_else_, bit, all}
-use Rattle.definitions.specs.Rights.{Right, READ, WRITE, EXEC, SUPER, UNCACHEABLE, named}
+use Rattle.definitions.specs.Rights.{Right, READ, WRITE, EXEC, SUPER, UNCACHEABLE, DEVICE, named}
 use Rattle.definitions.specs.Regions.{meets, splits, regions}
 use Rattle.definitions.specs.Questions.{everyNamed, ask, accepted}
 use Rattle.definitions.specs.declared.addr.HostAddr.{HostAddr}
@@ -33,10 +33,10 @@ module _ {A : Type 0} (step : A → Region → A) where
   foldFrom a (r ∷ rs) = foldFrom (step a r) rs
 
 -- do the counts that the rights name pass, by whether each count does?
-unfoldable pub everyOf : ℕ → Bool → Bool → Bool → Bool → Bool → Bool
-everyOf rights a b c d e =
+unfoldable pub everyOf : ℕ → Bool → Bool → Bool → Bool → Bool → Bool → Bool
+everyOf rights a b c d e f =
     all (λ (q : Right × Bool). (named (q .0) rights =? 0) || q .1)
-    ((READ, a) ∷ (WRITE, b) ∷ (EXEC, c) ∷ (SUPER, d) ∷ (UNCACHEABLE, e) ∷ [])
+    ((READ, a) ∷ (WRITE, b) ∷ (EXEC, c) ∷ (SUPER, d) ∷ (UNCACHEABLE, e) ∷ (DEVICE, f) ∷ [])
 
 -- question 4 of one region, and of the rights' counts
 unfoldable pub lowEnough : ℕ → Values → Bool

@@ -16,7 +16,7 @@ use Rattle.definitions.specs.declared.addr.HostAddr.{HostAddr}
 use Rattle.definitions.specs.declared.region.Region.{Region}
 use Rattle.definitions.specs.declared.remapper.Segment.{Segment}
 use Rattle.definitions.specs.declared.remapper.Mapping.{Mapping}
-use Rattle.capability_engine.specs.PoolWords.{regionAt}
+use Rattle.capability_engine.specs.PoolWords.{regionAt, poolLen}
 use Rattle.capability_engine.specs.PoolChain.{slots, Listed, storedAt}
 use Rattle.capability_engine.specs.SegmentWords.{segmentAt, segmentsFrom}
 use Rattle.capability_engine.specs.StreamFlow.{flow, Rising, Past, left}
@@ -28,7 +28,7 @@ use Rattle.capability_engine.specs.declared.stream.Turn.the-variants.{Yi
 
 -- the slices: room for the records, and n segments that fit, in order
 pub record Table (ws sg : List ℕ) (n : ℕ) : Type 0 where
-  pub words : length ws ≡ 8192
+  pub words : length ws ≡ poolLen
   pub few : n ≤ 64
   pub room : 4 * n ≤ length sg
   pub good : AllGood (segmentsFrom sg 0 n)

@@ -7,10 +7,11 @@ use mathlib.Core.Bool.{Bool, true}
 use mathlib.Core.List.{List, [], _∷_, _++_, map}
 use lib.ListN.{length, getD, take, drop}
 use Rattle.definitions.specs.Tests.{each}
+use Rattle.definitions.specs.Rights.{Right}
 use Rattle.definitions.specs.Stream.{stream}
 use Rattle.definitions.specs.Pages.{mappingGroup}
 use Rattle.definitions.specs.Reckoning.{Compartment, reckoning}
-use Rattle.definitions.specs.Agreement.{AgreesAt}
+use Rattle.definitions.specs.Agreement.{AgreesAt, GivesBack}
 use Rattle.definitions.specs.Questions.{accepted}
 use Rattle.definitions.specs.Calls.{streamOf, streamGroups, allowance, after}
 use Rattle.definitions.specs.Independence.{own, seen}
@@ -116,11 +117,13 @@ pub data ByCursor (m : Memory) (k : ℕ) : List Mapping → Type 0 where
   last : {copy : List ℕ} {n : ℕ} {c : RemapCursor} {found : List Mapping}
       → Stepped m k copy n c found → Steps (m .next) (m .words) copy n c Done → ByCursor m k found
 
--- The stream that is read of compartment k is the stream of c, whichever way, and it agrees with c at every host address.
+-- The stream that is read of compartment k is the stream of c, whichever way, and it agrees with c at every host address. So
+-- whoever reads it gets each right back exactly where c leaves it (document 02, order 10, of the device right).
 pub record StreamIs (m : Memory) (k : ℕ) (c : Compartment) : Type 0 where
   pub byPages : (got : List ℕ) → ByPages m k got → got ≡ each mappingGroup (streamOf c)
   pub byCursor : (found : List Mapping) → ByCursor m k found → found ≡ streamOf c
   pub agrees : (x : HostAddr) → x .0 < 2 ^ 64 → AgreesAt x c (streamOf c)
+  pub back : (x : HostAddr) → x .0 < 2 ^ 64 → (t : Right) → GivesBack t x (c .values x) (streamOf c)
   -- before the end, what is read and what is still to come are the stream: each mapping read is one fewer to come
   pub paged : (from : ℕ) (got : List ℕ) → Paged m k from got
       → (from ≤ length (streamOf c)) × (got ++ each mappingGroup (drop from (streamOf c)) ≡ each mappingGroup (streamOf c))

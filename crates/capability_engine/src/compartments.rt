@@ -2,6 +2,7 @@
 // new checks; what was grown from there is what every other call asks for.
 use crate::region::Allowed;
 use crate::region::Changed as RegionChanged;
+use crate::region::POOL_LEN;
 use crate::region::RegionTracker;
 use crate::remapper::Change;
 use crate::remapper::Remapper;
@@ -19,6 +20,7 @@ ghost use mathlib.Core.Bool.{true};
 ghost use mathlib.Core.List.{List};
 ghost use Prim.Native.Nat.{_<_, _≤_};
 ghost use lib.ListN.{length};
+ghost use Rattle.definitions.specs.Pages.{recordLen};
 ghost use Rattle.definitions.specs.Calls.{together, streamGroups, permissionGroups, regionGroups, segmentGroups};
 ghost use Rattle.definitions.specs.declared.call.Call.{Call};
 ghost use Rattle.definitions.specs.declared.call.Call.the-variants.{Add, Remove, Refcount, Overlaps, Map, Unmap, UnmapGpa, Permissions, Remap, Allow};
@@ -141,7 +143,7 @@ impl Tables {
             },
             done: false,
         };
-        if words.len() != 8192 {
+        if words.len() != POOL_LEN {
             return made;
         }
         if next.len() != 1025 {
@@ -471,7 +473,7 @@ impl Tables {
         Answer::Accepted(many as u64)
     }
 
-    // A page of a compartment's stored regions, with all six values: groups of eight numbers.
+    // A page of a compartment's stored regions: groups of RECORD_LEN numbers.
     pub fn regions(
         self,
         compartment: u64,
@@ -483,7 +485,7 @@ impl Tables {
         gens: &[u64],
     ) -> Answer
         requires { ⌜ IsGrown (now words) (now next) (now links) (now gens) self ⌝ }
-        ensures { λ r. ⌜ ((calls : List Call) → Grown (now (words .entry)) (now (next .entry)) (now (links .entry)) (now (gens .entry)) self calls → ReadsList 8 regionGroups calls compartment from (now (out .entry)) (now (out .exit)) r) ⌝ }
+        ensures { λ r. ⌜ ((calls : List Call) → Grown (now (words .entry)) (now (next .entry)) (now (links .entry)) (now (gens .entry)) self calls → ReadsList recordLen regionGroups calls compartment from (now (out .entry)) (now (out .exit)) r) ⌝ }
     {
         if 8 <= compartment {
             return Answer::Refused(Refusal::NoCompartment);

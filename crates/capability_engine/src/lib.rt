@@ -8,6 +8,7 @@ mod stream;
 pub use compartments::Created;
 pub use compartments::Outcome;
 pub use compartments::Tables;
+pub use region::POOL_LEN;
 pub use region::RegionTracker;
 pub use remapper::Remapper;
 pub use script::Fed;

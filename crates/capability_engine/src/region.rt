@@ -1,10 +1,11 @@
-// Lists of regions over one pool, which the caller lends as four slices: words, record i in the eight from 8 * i on; next, the
+// Lists of regions over one pool, which the caller lends as four slices: words, record i from RECORD_LEN * i on; next, the
 // slot after each slot, 1,024 for none, whose word 1,024 is the head of the list being worked on; links and gens, the arena's.
 use definitions::Answer;
 use definitions::Counters;
 use definitions::HostAddr;
 use definitions::MemOps;
 use definitions::MemoryPermission;
+use definitions::RECORD_LEN;
 use definitions::Refusal;
 use definitions::Region;
 use definitions::Values;
@@ -14,12 +15,13 @@ use gen_arena::NewHandle;
 ghost use mathlib.Core.Path.{_≡_};
 ghost use Prim.Native.Nat.{_+_, _*_, _-_, _^_, _<_, _≤_};
 ghost use lib.ListN.{length, getD};
-ghost use mathlib.Core.Bool.{true, not, _&&_, _||_};
+ghost use mathlib.Core.Bool.{false, true, not, _&&_, _||_};
 ghost use Rattle.definitions.specs.Tests.{if_then_else_, _<?_, _=?_, _≤?_, bit};
 ghost use Rattle.definitions.specs.Questions.{everyNamed, ranged};
 ghost use Rattle.definitions.specs.declared.answer.Answer.the-variants.{Accepted, Refused};
 ghost use Rattle.definitions.proofs.Tables.{addOn, removeOn};
-ghost use Rattle.capability_engine.specs.PoolWords.{regionAt, putRegion};
+ghost use Rattle.definitions.specs.Pages.{recordLen};
+ghost use Rattle.capability_engine.specs.PoolWords.{poolLen, regionAt, putRegion};
 ghost use Rattle.definitions.specs.Regions.{region, splits, within, meets, joins, joined, cut, refcountOf, permissionOf};
 ghost use Rattle.definitions.specs.Values.{nothing, raise, lower};
 ghost use Rattle.definitions.proofs.Lists.{fill, change, added, removed, peak};
@@ -29,6 +31,9 @@ ghost use Rattle.capability_engine.specs.RegionPasses.{lowered, startOf,
 ghost use Rattle.capability_engine.specs.RegionAsks.{everyOf, lowEnough, gapFrom, gapHere, addStep, freesOne, removeStep, AddsRegion, RemovesRegion, foldFrom, addBegin, removeBegin, AskableAt, Countable, mostOf, AllowsOne, Allotted};
 ghost use Rattle.capability_engine.specs.RegionListing.{Starts, Steps};
 
+// The words of the pool's 1,024 records.
+pub const POOL_LEN: usize = 1024 * RECORD_LEN;
+
 // The slot that was put in, and the arena without it.
 pub(crate) struct Inserted {
     pub arena: GenArena,
@@ -36,10 +41,10 @@ pub(crate) struct Inserted {
 }
 
 pub(crate) fn load(words: &[u64], i: usize) -> Region
-    requires { ⌜ (i < 1024) × (length (now words) ≡ 8192) ⌝ }
+    requires { ⌜ (i < 1024) × (length (now words) ≡ poolLen) ⌝ }
     ensures { λ r. ⌜ r ≡ regionAt (now (words .entry)) i ⌝ }
 {
-    let b = 8 * i;
+    let b = RECORD_LEN * i;
     let start = HostAddr(words[b]);
     let end = HostAddr(words[b + 1]);
     let counters = Counters {
@@ -48,6 +53,7 @@ pub(crate) fn load(words: &[u64], i: usize) -> Region
         exec: words[b + 5],
         supervisor: words[b + 6],
         uncacheable: words[b + 7],
+        device: words[b + 8],
     };
     let values = Values {
         refcount: words[b + 2],
@@ -57,10 +63,10 @@ pub(crate) fn load(words: &[u64], i: usize) -> Region
 }
 
 pub(crate) fn save(words: &mut [u64], i: usize, r: Region)
-    requires { ⌜ 8 * i + 8 ≤ length (now words) ⌝ }
+    requires { ⌜ recordLen * i + recordLen ≤ length (now words) ⌝ }
     ensures { λ _. ⌜ now (words .exit) ≡ putRegion (now (words .entry)) i r ⌝ }
 {
-    let b = 8 * i;
+    let b = RECORD_LEN * i;
     words[b] = r.start.0;
     words[b + 1] = r.end.0;
     words[b + 2] = r.values.refcount;
@@ -69,6 +75,7 @@ pub(crate) fn save(words: &mut [u64], i: usize, r: Region)
     words[b + 5] = r.values.counters.exec;
     words[b + 6] = r.values.counters.supervisor;
     words[b + 7] = r.values.counters.uncacheable;
+    words[b + 8] = r.values.counters.device;
 }
 
 // A free slot is linked in after p.
@@ -133,7 +140,7 @@ pub(crate) fn insert_region(
     r: Region,
 ) -> Inserted
     requires { ⌜ CanInsert (now next) (heap (now links) (now gens) arena) p ⌝ }
-    requires { ⌜ length (now words) ≡ 8192 ⌝ }
+    requires { ⌜ length (now words) ≡ poolLen ⌝ }
     ensures { λ i. ⌜ InsertsRegion (now (next .entry)) (now (words .entry)) (heap (now (links .entry)) (now (gens .entry)) arena) p (i .slot) r (now (next .exit)) (now (words .exit)) (heap (now (links .exit)) (now (gens .entry)) (i .arena)) ⌝ }
 {
     let made = insert_after(next, links, gens, arena, p);
@@ -153,7 +160,7 @@ pub(crate) fn split_region_at(
     at: HostAddr,
 ) -> Inserted
     requires { ⌜ (slot < 1024) × CanInsert (now next) (heap (now links) (now gens) arena) slot ⌝ }
-    requires { ⌜ length (now words) ≡ 8192 ⌝ }
+    requires { ⌜ length (now words) ≡ poolLen ⌝ }
     ensures { λ i. ⌜ InsertsRegion (now (next .entry)) (putRegion (now (words .entry)) slot (region (regionAt (now (words .entry)) slot .start) at (regionAt (now (words .entry)) slot .values))) (heap (now (links .entry)) (now (gens .entry)) arena) slot (i .slot) (region at (regionAt (now (words .entry)) slot .end) (regionAt (now (words .entry)) slot .values)) (now (next .exit)) (now (words .exit)) (heap (now (links .exit)) (now (gens .entry)) (i .arena)) ⌝ }
 {
     let r = load(words, slot);
@@ -234,12 +241,13 @@ fn goes_on(r: Region, q: Region) -> bool
     }
 }
 
+// The first up to the second's end. Both have the same values: with those of the first only its end is written anew.
 fn both(r: Region, q: Region) -> Region
-    ensures { λ s. ⌜ s ≡ region (r .start) (q .end) (q .values) ⌝ }
+    ensures { λ s. ⌜ s ≡ region (r .start) (q .end) (r .values) ⌝ }
 {
     let start = r.start;
     let end = q.end;
-    let values = q.values;
+    let values = r.values;
     Region { start, end, values }
 }
 
@@ -287,6 +295,17 @@ fn lies_in(r: Region, start: HostAddr, end: HostAddr) -> bool
     }
 }
 
+// What a pass makes of the region in a slot is written where that lies in the range: elsewhere it is there already.
+fn save_in(words: &mut [u64], i: usize, r: Region, start: HostAddr, end: HostAddr, s: Region)
+    requires { ⌜ recordLen * i + recordLen ≤ length (now words) ⌝ }
+    requires { ⌜ (within start end r ≡ false → s ≡ regionAt (now words) i) ⌝ }
+    ensures { λ _. ⌜ now (words .exit) ≡ putRegion (now (words .entry)) i s ⌝ }
+{
+    if lies_in(r, start, end) {
+        save(words, i, s);
+    }
+}
+
 fn increase_in(r: Region, start: HostAddr, end: HostAddr, rights: u64) -> Region
     requires { ⌜ Small (changedOne (raise rights) start end r .values) ⌝ }
     ensures { λ s. ⌜ s ≡ changedOne (raise rights) start end r ⌝ }
@@ -319,7 +338,7 @@ pub(crate) fn raise_all(
         }
         let r = load(words, x);
         let s = increase_in(r, start, end, rights);
-        save(words, x, s);
+        save_in(words, x, r, start, end, s);
         q = x;
     }
 }
@@ -336,7 +355,7 @@ fn put_gap(
     end: HostAddr,
 ) -> GenArena
     requires { ⌜ (start .0 < end .0 → CanInsert (now next) (heap (now links) (now gens) arena) q) ⌝ }
-    requires { ⌜ length (now words) ≡ 8192 ⌝ }
+    requires { ⌜ length (now words) ≡ poolLen ⌝ }
     ensures { λ r. ⌜ PutsGap (now (next .entry)) (now (words .entry)) (heap (now (links .entry)) (now (gens .entry)) arena) q start end (now (next .exit)) (now (words .exit)) (heap (now (links .exit)) (now (gens .entry)) r) ⌝ }
 {
     if start.0 < end.0 {
@@ -346,6 +365,7 @@ fn put_gap(
             exec: 0,
             supervisor: 0,
             uncacheable: 0,
+            device: 0,
         };
         let values = Values {
             refcount: 0,
@@ -440,7 +460,7 @@ pub(crate) fn lower_all(
         if l.values.refcount == 0 {
             left = remove_after(next, links, gens, left, q);
         } else {
-            save(words, x, l);
+            save_in(words, x, r, start, end, l);
             q = x;
         }
     }
@@ -534,7 +554,7 @@ fn skip_below(next: &[usize], words: &[u64], head: usize, start: HostAddr) -> Sk
     let mut q = 1024;
     let mut cur = head;
     while cur < 1024 {
-        let to = words[8 * cur + 1];
+        let to = words[RECORD_LEN * cur + 1];
         if start.0 <= to {
             return Skipped { last: q, next: cur };
         }
@@ -552,7 +572,7 @@ fn skip_through(next: &[usize], words: &[u64], p: usize, head: usize, end: HostA
     let mut q = p;
     let mut cur = head;
     while cur < 1024 {
-        let from = words[8 * cur];
+        let from = words[RECORD_LEN * cur];
         if end.0 < from {
             return q;
         }
@@ -738,8 +758,9 @@ fn every(
     exec: bool,
     supervisor: bool,
     uncacheable: bool,
+    device: bool,
 ) -> bool
-    ensures { λ r. ⌜ r ≡ everyOf rights read write exec supervisor uncacheable ⌝ }
+    ensures { λ r. ⌜ r ≡ everyOf rights read write exec supervisor uncacheable device ⌝ }
 {
     let c = MemOps(rights).as_counters();
     let a = or(c.read == 0, read);
@@ -747,7 +768,8 @@ fn every(
     let d = or(c.exec == 0, exec);
     let e = or(c.supervisor == 0, supervisor);
     let f = or(c.uncacheable == 0, uncacheable);
-    and(a, and(b, and(d, and(e, f))))
+    let g = or(c.device == 0, device);
+    and(a, and(b, and(d, and(e, and(f, g)))))
 }
 
 // Question 4 of one region: yes of one that is not touched.
@@ -767,6 +789,7 @@ fn can_rise(touched: bool, v: Values, rights: u64) -> bool
             c.exec < 65535,
             c.supervisor < 65535,
             c.uncacheable < 65535,
+            c.device < 65535,
         ),
     )
 }
@@ -786,6 +809,7 @@ fn can_fall(touched: bool, v: Values, rights: u64) -> bool
         0 < c.exec,
         0 < c.supervisor,
         0 < c.uncacheable,
+        0 < c.device,
     )
 }
 
@@ -804,6 +828,7 @@ fn none_is_last(touched: bool, v: Values, rights: u64) -> bool
         c.exec != 1,
         c.supervisor != 1,
         c.uncacheable != 1,
+        c.device != 1,
     )
 }
 
@@ -1034,7 +1059,7 @@ fn in_range(start: HostAddr, end: HostAddr, rights: u64, answer: Answer) -> Answ
 {
     let rest = unless_empty(start, end, answer);
     let third = pick(start.0 <= end.0, Refusal::InvalidRange, rest);
-    pick(rights < 32, Refusal::InvalidMemOps, third)
+    pick(rights < 64, Refusal::InvalidMemOps, third)
 }
 
 // The whole answer of an add to the list from head, which may take room records more.

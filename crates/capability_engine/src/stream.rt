@@ -9,7 +9,8 @@ ghost use lib.Seq.{sets};
 ghost use Rattle.definitions.specs.Tests.{if_then_else_, _=?_, host};
 ghost use Rattle.definitions.specs.Regions.{region, permissionOf};
 ghost use Rattle.definitions.specs.Stream.{sharedPart, identity, stream};
-ghost use Rattle.definitions.specs.Pages.{mappingGroup, permissionGroup, regionGroup, segmentGroup};
+ghost use Rattle.definitions.specs.Pages.{mappingGroup, permissionGroup, regionGroup, segmentGroup, recordLen};
+ghost use Rattle.capability_engine.specs.PoolWords.{poolLen};
 ghost use Rattle.capability_engine.specs.PoolChain.{slots, Listed, Walkable, storedAt};
 ghost use Rattle.capability_engine.specs.RegionListing.{permissionsFrom};
 ghost use Rattle.capability_engine.specs.SegmentWords.{segmentsFrom, segmentAt};
@@ -26,6 +27,7 @@ use definitions::GuestAddr;
 use definitions::HostAddr;
 use definitions::Mapping;
 use definitions::MemoryPermission;
+use definitions::RECORD_LEN;
 use definitions::Region;
 use definitions::Segment;
 
@@ -123,12 +125,12 @@ fn plain(start: u64, end: u64, r: Region) -> Mapping
 
 // Has the segment that was begun last a record more?
 fn goes_on(c: RemapCursor, words: &[u64]) -> bool
-    requires { ⌜ length (now words) ≡ 8192 ⌝ }
+    requires { ⌜ length (now words) ≡ poolLen ⌝ }
     ensures { λ b. ⌜ b ≡ goesOn (now (words .entry)) c ⌝ }
 {
     let i = c.ongoing;
     if i < 1024 {
-        let b = 8 * i;
+        let b = RECORD_LEN * i;
         words[b] < c.end.0
     } else {
         false
@@ -491,7 +493,7 @@ pub(crate) fn permissions(
     k: usize,
     out: &mut [u64],
 ) -> usize
-    requires { ⌜ length (now words) ≡ 8192 ⌝ }
+    requires { ⌜ length (now words) ≡ poolLen ⌝ }
     requires { ⌜ Listed (now next) (tracker .head) (slots (now next) (tracker .head)) ⌝ }
     ensures { λ r. ⌜ Filled 3 (map (λ q. permissionGroup (permissionOf q)) (storedAt (now (next .entry)) (now (words .entry)) (tracker .head))) k
         (now (out .entry)) (now (out .exit)) r ⌝ }
@@ -503,12 +505,12 @@ pub(crate) fn permissions(
 
 // The regions from a slot on, as many as there are and as fit.
 fn fill_regions(next: &[usize], words: &[u64], from: usize, out: &mut [u64]) -> usize
-    requires { ⌜ length (now words) ≡ 8192 ⌝ }
+    requires { ⌜ length (now words) ≡ poolLen ⌝ }
     requires { ⌜ Listed (now next) from (slots (now next) from) ⌝ }
-    ensures { λ r. ⌜ Filled 8 (map regionGroup (storedAt (now (next .entry)) (now (words .entry)) from)) 0
+    ensures { λ r. ⌜ Filled recordLen (map regionGroup (storedAt (now (next .entry)) (now (words .entry)) from)) 0
         (now (out .entry)) (now (out .exit)) r ⌝ }
 {
-    let room = out.len() / 8;
+    let room = out.len() / RECORD_LEN;
     let mut h = from;
     let mut i: usize = 0;
     while i < room {
@@ -523,7 +525,7 @@ fn fill_regions(next: &[usize], words: &[u64], from: usize, out: &mut [u64]) -> 
     i
 }
 
-// A page from region k on: as many groups of eight numbers as the slice and the list allow, and how many.
+// A page from region k on: as many groups of RECORD_LEN numbers as the slice and the list allow, and how many.
 pub(crate) fn regions(
     next: &[usize],
     words: &[u64],
@@ -531,9 +533,9 @@ pub(crate) fn regions(
     k: usize,
     out: &mut [u64],
 ) -> usize
-    requires { ⌜ length (now words) ≡ 8192 ⌝ }
+    requires { ⌜ length (now words) ≡ poolLen ⌝ }
     requires { ⌜ Listed (now next) head (slots (now next) head) ⌝ }
-    ensures { λ r. ⌜ Filled 8 (map regionGroup (storedAt (now (next .entry)) (now (words .entry)) head)) k
+    ensures { λ r. ⌜ Filled recordLen (map regionGroup (storedAt (now (next .entry)) (now (words .entry)) head)) k
         (now (out .entry)) (now (out .exit)) r ⌝ }
 {
     let h = follow(next, head, k);

@@ -16,7 +16,7 @@ and-requires c κs = search needs
 
 returns-2 : tie.Need-returns-2
 unfolding lowEnough everyNamed everyOf RIGHTS
-returns-2 c = rw (c .before .before .before .before .before .before .before .before .before .if1 .left, c .and .ensures, c .before .every .ensures)
+returns-2 c = rw (c .before .before .before .before .before .before .before .before .before .before .if1 .left, c .and .ensures, c .before .every .ensures)
 
 pub can-rise-spec : {M : Type 1} → statement M
 can-rise-spec = tie.close (tie.spec returns every-requires and-requires returns-2)

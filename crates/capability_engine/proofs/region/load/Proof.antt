@@ -67,14 +67,23 @@ mul-t27 c = search needs
 shared-slice-read-t29 : tie.Need-shared-slice-read-t29
 shared-slice-read-t29 c = search needs
 
+add-t30 : tie.Need-add-t30
+add-t30 c = search needs
+
+mul-t31 : tie.Need-mul-t31
+mul-t31 c = search needs
+
+shared-slice-read-t33 : tie.Need-shared-slice-read-t33
+shared-slice-read-t33 c = search needs
+
 add-t8-3 : tie.Need-add-t8-3
 add-t8-3 c = search needs
 
 mul-t11-3 : tie.Need-mul-t11-3
 mul-t11-3 c = search needs
 
-shared-slice-read-t29-2 : tie.Need-shared-slice-read-t29-2
-shared-slice-read-t29-2 c = search needs
+shared-slice-read-t33-2 : tie.Need-shared-slice-read-t33-2
+shared-slice-read-t33-2 c = search needs
 
 returns : tie.Need-returns
 unfolding regionAt
@@ -105,7 +114,10 @@ load-spec =
     add-t26
     mul-t27
     shared-slice-read-t29
+    add-t30
+    mul-t31
+    shared-slice-read-t33
     add-t8-3
     mul-t11-3
-    shared-slice-read-t29-2
+    shared-slice-read-t33-2
     returns)

@@ -4,7 +4,7 @@ use mathlib.Core.Path.{refl}
 use Rattle.capability_engine.specs.RegionPasses.{lowered}
 use Rattle.capability_engine.specs.PoolOwn.{heap, recordsOf}
 use Rattle.capability_engine.proofs.PoolZips.{Zip, ahead, zip-start, zip-lt}
-use Rattle.capability_engine.proofs.RegionTurns.{lower-end, lower-asks, lower-drop, lower-put}
+use Rattle.capability_engine.proofs.RegionTurns.{lower-end, lower-asks, lower-drop, lower-put, one-stays}
 use Rattle.capability_engine.proofs.region.lower_all.Statement.{statement}
 use Rattle.capability_engine.proofs.region.lower_all.Tie as tie
 
@@ -53,14 +53,14 @@ loop-less c = lower-drop _ _ _ (c .before .before .before .before .before .befor
 loop-again : tie.Need-loop-again Inv-loop μ-loop
 loop-again c = lower-drop _ _ _ (c .before .before .before .before .before .before .before .before .before .before .before .before .before .before .before .before .before .loop .inv) _ _ _ refl (c .before .before .before .before .before .before .before .before .before .before .before .before .before .before .before .if1 .left) (c .before .before .before .before .before .before .before .before .before .before .before .before .before .load .ensures) (c .before .before .before .before .before .before .before .before .before .before .before .before .decrease-in .ensures) _ _ (c .before .before .before .before .before .before .before .before .before .before .if2 .taken) (c .before .before .before .before .before .before .remove-after .ensures) .0
 
-save-requires : tie.Need-save-requires Inv-loop μ-loop
-save-requires c κs = omega (arith, c .before .before .before .before .before .before .if1 .left, c .before .before .before .before .before .before .before .before .loop .inv .pass .ready .words)
+save-in-requires : tie.Need-save-in-requires Inv-loop μ-loop
+save-in-requires c κs = (omega (arith, c .before .before .before .before .before .before .if1 .left, c .before .before .before .before .before .before .before .before .loop .inv .pass .ready .words), one-stays _ _ _ _ _ _ (c .before .before .before .before .load .ensures) (c .before .before .before .decrease-in .ensures))
 
 loop-less-2 : tie.Need-loop-less-2 Inv-loop μ-loop
-loop-less-2 c = lower-put _ _ _ (c .before .before .before .before .before .before .before .before .before .before .before .loop .inv) _ _ _ refl (c .before .before .before .before .before .before .before .before .before .if1 .left) (c .before .before .before .before .before .before .before .load .ensures) (c .before .before .before .before .before .before .decrease-in .ensures) _ (c .before .before .before .before .if2 .left) (c .before .before .save .ensures) .1
+loop-less-2 c = lower-put _ _ _ (c .before .before .before .before .before .before .before .before .before .before .before .loop .inv) _ _ _ refl (c .before .before .before .before .before .before .before .before .before .if1 .left) (c .before .before .before .before .before .before .before .load .ensures) (c .before .before .before .before .before .before .decrease-in .ensures) _ (c .before .before .before .before .if2 .left) (c .before .before .save-in .ensures) .1
 
 loop-again-2 : tie.Need-loop-again-2 Inv-loop μ-loop
-loop-again-2 c = lower-put _ _ _ (c .before .before .before .before .before .before .before .before .before .before .before .loop .inv) _ _ _ refl (c .before .before .before .before .before .before .before .before .before .if1 .left) (c .before .before .before .before .before .before .before .load .ensures) (c .before .before .before .before .before .before .decrease-in .ensures) _ (c .before .before .before .before .if2 .left) (c .before .before .save .ensures) .0
+loop-again-2 c = lower-put _ _ _ (c .before .before .before .before .before .before .before .before .before .before .before .loop .inv) _ _ _ refl (c .before .before .before .before .before .before .before .before .before .if1 .left) (c .before .before .before .before .before .before .before .load .ensures) (c .before .before .before .before .before .before .decrease-in .ensures) _ (c .before .before .before .before .if2 .left) (c .before .before .save-in .ensures) .0
 
 pub lower-all-spec : {M : Type 1} → statement M
 lower-all-spec =
@@ -81,6 +81,6 @@ lower-all-spec =
     remove-after-requires
     loop-less
     loop-again
-    save-requires
+    save-in-requires
     loop-less-2
     loop-again-2)

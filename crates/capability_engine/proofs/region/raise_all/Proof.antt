@@ -4,7 +4,7 @@ use Rattle.definitions.proofs.Lists.{change}
 use Rattle.definitions.specs.Values.{raise}
 use Rattle.capability_engine.specs.PoolOwn.{Heap, Ready, recordsOf}
 use Rattle.capability_engine.proofs.PoolZips.{Zip, ahead, zip-start, zip-lt}
-use Rattle.capability_engine.proofs.RegionTurns.{change-end, change-small, change-it}
+use Rattle.capability_engine.proofs.RegionTurns.{change-end, change-small, change-it, one-stays}
 use Rattle.capability_engine.proofs.region.raise_all.Statement.{statement}
 use Rattle.capability_engine.proofs.region.raise_all.Tie as tie
 
@@ -35,14 +35,14 @@ load-requires c κs = (c .before .if1 .left, (c .before .before .before .loop .i
 increase-in-requires : tie.Need-increase-in-requires Inv-loop μ-loop
 increase-in-requires c κs = change-small _ _ _ (c .before .before .before .before .loop .inv (c .before .before .before .before .before .before .before .pre .0 .0) (c .before .before .before .before .before .before .before .pre .0 .1)) _ _ refl (c .before .before .if1 .left) (c .load .ensures) (c .before .before .before .before .before .before .before .pre .1)
 
-save-requires : tie.Need-save-requires Inv-loop μ-loop
-save-requires c κs = omega (arith, c .before .before .before .before .if1 .left, (c .before .before .before .before .before .before .loop .inv (c .before .before .before .before .before .before .before .before .before .pre .0 .0) (c .before .before .before .before .before .before .before .before .before .pre .0 .1)) .pass .ready .words)
+save-in-requires : tie.Need-save-in-requires Inv-loop μ-loop
+save-in-requires c κs = (omega (arith, c .before .before .before .before .if1 .left, (c .before .before .before .before .before .before .loop .inv (c .before .before .before .before .before .before .before .before .before .pre .0 .0) (c .before .before .before .before .before .before .before .before .before .pre .0 .1)) .pass .ready .words), one-stays _ _ _ _ _ _ (c .before .before .load .ensures) (c .before .increase-in .ensures))
 
 loop-less : tie.Need-loop-less Inv-loop μ-loop
-loop-less c = change-it _ _ _ (c .before .before .before .before .before .before .before .before .before .loop .inv (c .before .before .before .before .before .before .before .before .before .before .before .before .pre .0 .0) (c .before .before .before .before .before .before .before .before .before .before .before .before .pre .0 .1)) _ _ refl (c .before .before .before .before .before .before .before .if1 .left) (c .before .before .before .before .before .load .ensures) _ _ (c .before .before .before .before .increase-in .ensures) (c .before .before .save .ensures) .1
+loop-less c = change-it _ _ _ (c .before .before .before .before .before .before .before .before .before .loop .inv (c .before .before .before .before .before .before .before .before .before .before .before .before .pre .0 .0) (c .before .before .before .before .before .before .before .before .before .before .before .before .pre .0 .1)) _ _ refl (c .before .before .before .before .before .before .before .if1 .left) (c .before .before .before .before .before .load .ensures) _ _ (c .before .before .before .before .increase-in .ensures) (c .before .before .save-in .ensures) .1
 
 loop-again : tie.Need-loop-again Inv-loop μ-loop
-loop-again c = λ fl h. change-it _ _ _ (c .before .before .before .before .before .before .before .before .before .loop .inv fl h) _ _ refl (c .before .before .before .before .before .before .before .if1 .left) (c .before .before .before .before .before .load .ensures) _ _ (c .before .before .before .before .increase-in .ensures) (c .before .before .save .ensures) .0
+loop-again c = λ fl h. change-it _ _ _ (c .before .before .before .before .before .before .before .before .before .loop .inv fl h) _ _ refl (c .before .before .before .before .before .before .before .if1 .left) (c .before .before .before .before .before .load .ensures) _ _ (c .before .before .before .before .increase-in .ensures) (c .before .before .save-in .ensures) .0
 
 pub raise-all-spec : {M : Type 1} → statement M
 raise-all-spec =
@@ -57,6 +57,6 @@ raise-all-spec =
     returns
     load-requires
     increase-in-requires
-    save-requires
+    save-in-requires
     loop-less
     loop-again)

@@ -1,6 +1,7 @@
 use native.Mathlib.Numerals.{towards-suc}
 use native.Mathlib.Omega.{arith}
 use lib.ListN.{length-set}
+use Rattle.definitions.specs.Rights.{RIGHTS}
 use Rattle.capability_engine.specs.PoolWords.{putRegion}
 use borrow.Author.Needs.{needs}
 use Rattle.capability_engine.proofs.region.save.Statement.{statement}
@@ -78,11 +79,20 @@ mul-words-8 c = search needs
 slice-write-words-8 : tie.Need-slice-write-words-8
 slice-write-words-8 c = simp length-set (omega arith)
 
+add-words-8 : tie.Need-add-words-8
+add-words-8 c = search needs
+
+mul-words-9 : tie.Need-mul-words-9
+mul-words-9 c = search needs
+
+slice-write-words-9 : tie.Need-slice-write-words-9
+slice-write-words-9 c = simp length-set (omega arith)
+
 same-length : tie.Need-same-length
 same-length c = search needs
 
 returns : tie.Need-returns
-unfolding putRegion
+unfolding putRegion RIGHTS
 returns c = simp towards-suc
 
 pub save-spec : {M : Type 1} → statement M
@@ -113,5 +123,8 @@ save-spec =
     add-words-7
     mul-words-8
     slice-write-words-8
+    add-words-8
+    mul-words-9
+    slice-write-words-9
     same-length
     returns)

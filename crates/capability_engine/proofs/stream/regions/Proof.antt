@@ -1,5 +1,5 @@
 use Rattle.capability_engine.proofs.StreamWalks.{walk-from}
-use Rattle.definitions.specs.Pages.{regionGroup}
+use Rattle.definitions.specs.Pages.{regionGroup, recordLen}
 use borrow.Author.Needs.{needs}
 use Rattle.capability_engine.proofs.stream.regions.Statement.{statement}
 use Rattle.capability_engine.proofs.stream.regions.Tie as tie
@@ -14,7 +14,7 @@ same-length : tie.Need-same-length
 same-length c = search needs
 
 returns : tie.Need-returns
-returns c = walk-from 8 regionGroup _ _ (c .before .before .before .before .before .before .before .before .args .head) _ (c .before .before .before .before .before .before .before .before .args .k) _ _ _ (c .before .before .before .before .follow .ensures .1) (c .before .before .fill-regions .ensures)
+returns c = walk-from recordLen regionGroup _ _ (c .before .before .before .before .before .before .before .before .args .head) _ (c .before .before .before .before .before .before .before .before .args .k) _ _ _ (c .before .before .before .before .follow .ensures .1) (c .before .before .fill-regions .ensures)
 
 pub regions-spec : {M : Type 1} → statement M
 regions-spec = tie.close (tie.spec follow-requires fill-regions-requires same-length returns)

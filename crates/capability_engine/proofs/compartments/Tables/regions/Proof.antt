@@ -1,6 +1,7 @@
 use native.Mathlib.Omega.{arith}
 use denote.Ref.{now}
 use Rattle.definitions.specs.Calls.{regionGroups}
+use Rattle.definitions.specs.Pages.{recordLen}
 use Rattle.capability_engine.proofs.CompartmentLaws.{grown-walk}
 use Rattle.capability_engine.proofs.CompartmentReads.{past-list, regions-listed}
 use borrow.Author.Needs.{needs}
@@ -8,7 +9,7 @@ use Rattle.capability_engine.proofs.compartments.Tables.regions.Stateme
 use Rattle.capability_engine.proofs.compartments.Tables.regions.Tie as tie
 
 returns : tie.Need-returns
-returns c = λ calls g. past-list 8 regionGroups calls _ (c .before .before .before .before .before .before .args .from) (now (c .before .before .before .before .before .before .args .out)) (c .if1 .taken)
+returns c = λ calls g. past-list recordLen regionGroups calls _ (c .before .before .before .before .before .before .args .from) (now (c .before .before .before .before .before .before .args .out)) (c .if1 .taken)
 
 mul-tracker : tie.Need-mul-tracker
 mul-tracker c = search needs
