@@ -1,4 +1,5 @@
 // What a host program calls: a script from empty tables, and one read after it.
+use capability_engine::POOL_LEN;
 use capability_engine::Script;
 use capability_engine::Tables;
 use columns::Put;
@@ -8,6 +9,7 @@ ghost use mathlib.Core.Path.{_≡_};
 ghost use Rattle.definitions.specs.Tests.{guest};
 ghost use Rattle.definitions.specs.Calls.{streamGroups, permissionGroups, regionGroups, segmentGroups, answer};
 ghost use Rattle.definitions.specs.declared.call.Call.the-variants.{Overlaps};
+ghost use Rattle.definitions.specs.Pages.{recordLen};
 ghost use Rattle.capability_engine.specs.CompartmentGrown.{Sized};
 ghost use Rattle.exports.specs.Exports.{coded as codedAs, leftBy, Leaves, Prints, ReadsPage};
 
@@ -63,7 +65,7 @@ fn printed_in(
 pub extern "C" fn run_script(script: &[u8], out: &mut [u8]) -> usize
     ensures { λ r. ⌜ Prints (now (script .entry)) (now (out .entry)) (now (out .exit)) r ⌝ }
 {
-    let mut words = [0u64; 8192];
+    let mut words = [0u64; POOL_LEN];
     let mut next = [0usize; 1025];
     let mut links = [0usize; 1024];
     let mut gens = [0u64; 1024];
@@ -91,7 +93,7 @@ fn tables_after(
 pub extern "C" fn stream_page(script: &[u8], compartment: u64, from: usize, out: &mut [u64]) -> u64
     ensures { λ r. ⌜ ReadsPage 5 streamGroups (now (script .entry)) compartment from (now (out .entry)) (now (out .exit)) r ⌝ }
 {
-    let mut words = [0u64; 8192];
+    let mut words = [0u64; POOL_LEN];
     let mut next = [0usize; 1025];
     let mut links = [0usize; 1024];
     let mut gens = [0u64; 1024];
@@ -110,7 +112,7 @@ pub extern "C" fn permissions_page(
 ) -> u64
     ensures { λ r. ⌜ ReadsPage 3 permissionGroups (now (script .entry)) compartment from (now (out .entry)) (now (out .exit)) r ⌝ }
 {
-    let mut words = [0u64; 8192];
+    let mut words = [0u64; POOL_LEN];
     let mut next = [0usize; 1025];
     let mut links = [0usize; 1024];
     let mut gens = [0u64; 1024];
@@ -119,12 +121,12 @@ pub extern "C" fn permissions_page(
     coded(answer)
 }
 
-// A page of its stored regions: start, end and all six values.
+// A page of its stored regions: start, end, holders and a count for each right.
 #[no_mangle]
 pub extern "C" fn regions_page(script: &[u8], compartment: u64, from: usize, out: &mut [u64]) -> u64
-    ensures { λ r. ⌜ ReadsPage 8 regionGroups (now (script .entry)) compartment from (now (out .entry)) (now (out .exit)) r ⌝ }
+    ensures { λ r. ⌜ ReadsPage recordLen regionGroups (now (script .entry)) compartment from (now (out .entry)) (now (out .exit)) r ⌝ }
 {
-    let mut words = [0u64; 8192];
+    let mut words = [0u64; POOL_LEN];
     let mut next = [0usize; 1025];
     let mut links = [0usize; 1024];
     let mut gens = [0u64; 1024];
@@ -143,7 +145,7 @@ pub extern "C" fn segments_page(
 ) -> u64
     ensures { λ r. ⌜ ReadsPage 4 segmentGroups (now (script .entry)) compartment from (now (out .entry)) (now (out .exit)) r ⌝ }
 {
-    let mut words = [0u64; 8192];
+    let mut words = [0u64; POOL_LEN];
     let mut next = [0usize; 1025];
     let mut links = [0usize; 1024];
     let mut gens = [0u64; 1024];
@@ -157,7 +159,7 @@ pub extern "C" fn segments_page(
 pub extern "C" fn overlaps_after(script: &[u8], compartment: u64, start: u64, size: u64) -> u64
     ensures { λ r. ⌜ r ≡ codedAs (answer (leftBy (now (script .entry))) (Overlaps compartment (guest start) size)) ⌝ }
 {
-    let mut words = [0u64; 8192];
+    let mut words = [0u64; POOL_LEN];
     let mut next = [0usize; 1025];
     let mut links = [0usize; 1024];
     let mut gens = [0u64; 1024];

@@ -1,5 +1,6 @@
 // The marking key: a script from standard input, its output to standard output, in bounded memory.
 ghost use Rattle.capability_engine.specs.CompartmentGrown.{IsGrown};
+use capability_engine::POOL_LEN;
 use capability_engine::Script;
 use capability_engine::Tables;
 use libc::STDIN_FILENO;
@@ -65,7 +66,7 @@ fn pump(
 }
 
 fn main() {
-    let mut words = [0u64; 8192];
+    let mut words = [0u64; POOL_LEN];
     let mut next = [0usize; 1025];
     let mut links = [0usize; 1024];
     let mut gens = [0u64; 1024];

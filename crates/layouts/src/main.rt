@@ -1,5 +1,6 @@
-// Runs layouts of document 01, and of document 02's orders 4 and 8, that concern regions over the public calls, and writes each answer:
-// the call, its answer's number and its value. Then the pool is filled, from one compartment and from all, and emptied.
+// Runs layouts of document 01, and of document 02's orders 4, 8 and 10, that concern regions over the public calls, and writes each
+// answer: the call, its answer's number and its value. Then the pool is filled, from one compartment and from all, and emptied.
+use capability_engine::POOL_LEN;
 use capability_engine::Tables;
 use definitions::Answer;
 use definitions::HostAddr;
@@ -9,7 +10,7 @@ ghost use Prim.Native.Nat.{_<_, _≤_};
 
 // Five numbers a row: the call (0 fresh tables, 1 add, 2 remove, 3 get_refcount, 4 permissions, 5 allow), the compartment, and
 // its start, end and rights, or the permission to read from, or the allowance.
-const LAYOUTS: [u64; 385] = [
+const LAYOUTS: [u64; 490] = [
     1,
     0,
     0,
@@ -155,6 +156,111 @@ const LAYOUTS: [u64; 385] = [
     0,
     0,
     0,
+    1,
+    0,
+    0,
+    10,
+    3,
+    1,
+    0,
+    4,
+    6,
+    33, // a buffer lent to a device: it has come
+    4,
+    0,
+    0,
+    0,
+    0, // so three records
+    2,
+    0,
+    4,
+    6,
+    33, // taken back: it has gone
+    4,
+    0,
+    0,
+    0,
+    0, // so one record
+    2,
+    0,
+    0,
+    10,
+    32, // 8: its count is 0
+    0,
+    0,
+    0,
+    0,
+    0,
+    1,
+    0,
+    0,
+    10,
+    33,
+    1,
+    0,
+    0,
+    5,
+    1,
+    1,
+    0,
+    5,
+    10,
+    33, // counted twice there, once below
+    4,
+    0,
+    0,
+    0,
+    0, // so two records, of the same rights
+    2,
+    0,
+    5,
+    10,
+    33,
+    1,
+    0,
+    5,
+    10,
+    1, // counted once in both
+    4,
+    0,
+    0,
+    0,
+    0, // so one record
+    0,
+    0,
+    0,
+    0,
+    0,
+    1,
+    0,
+    0,
+    10,
+    32, // no right but this one
+    4,
+    0,
+    0,
+    0,
+    0,
+    2,
+    0,
+    0,
+    10,
+    0, // the last holder takes the count along
+    1,
+    0,
+    0,
+    10,
+    1,
+    4,
+    0,
+    0,
+    0,
+    0,
+    0,
+    0,
+    0,
+    0,
+    0,
     2,
     0,
     12,
@@ -219,7 +325,7 @@ const LAYOUTS: [u64; 385] = [
     0,
     30,
     25,
-    32, // 2
+    64, // 2
     1,
     8,
     0,
@@ -229,7 +335,7 @@ const LAYOUTS: [u64; 385] = [
     0,
     0,
     18446744073709551615,
-    31,
+    63,
     4,
     0,
     1,
@@ -528,7 +634,7 @@ fn row(
     links: &mut [usize],
     gens: &mut [u64],
 ) -> Tables
-    requires { ⌜ i < 77 ⌝ }
+    requires { ⌜ i < 98 ⌝ }
     requires { ⌜ IsGrown (now words) (now next) (now links) (now gens) t ⌝ }
     ensures { λ r. ⌜ IsGrown (now (words .exit)) (now (next .exit)) (now (links .exit)) (now (gens .exit)) r ⌝ }
 {
@@ -657,7 +763,7 @@ fn run(t: Tables, words: &mut [u64], next: &mut [usize], links: &mut [usize], ge
 {
     let mut t = t;
     let mut i: usize = 0;
-    while i < 77 {
+    while i < 98 {
         t = row(t, i, words, next, links, gens);
         i += 1;
     }
@@ -666,7 +772,7 @@ fn run(t: Tables, words: &mut [u64], next: &mut [usize], links: &mut [usize], ge
 }
 
 fn main() {
-    let mut words = [0u64; 8192];
+    let mut words = [0u64; POOL_LEN];
     let mut next = [0usize; 1025];
     let mut links = [0usize; 1024];
     let mut gens = [0u64; 1024];

@@ -1,6 +1,7 @@
 // Reads a script from standard input, and after it each compartment's stream, permissions, regions and segments by pages of
 // several lengths, over the exported functions. A line for each page says what was asked and answered; its groups follow.
 ghost use Prim.Native.Nat.{_≤_};
+use definitions::RECORD_LEN;
 use libc::STDIN_FILENO;
 use libc::STDOUT_FILENO;
 
@@ -39,13 +40,13 @@ fn size_of(width: usize, many: usize) -> usize
     if width == 3 {
         return 3 * many;
     }
-    if width == 8 {
-        return 8 * many;
+    if width == RECORD_LEN {
+        return RECORD_LEN * many;
     }
     4 * many
 }
 
-// A page of groups of 5, 3, 8 or 4 numbers.
+// A page of groups of 5 or 3 numbers, of a region's or of 4.
 fn read(script: &[u8], width: usize, compartment: u64, from: usize, out: &mut [u64]) -> u64 {
     if width == 5 {
         return exports::stream_page(script, compartment, from, out);
@@ -53,7 +54,7 @@ fn read(script: &[u8], width: usize, compartment: u64, from: usize, out: &mut [u
     if width == 3 {
         return exports::permissions_page(script, compartment, from, out);
     }
-    if width == 8 {
+    if width == RECORD_LEN {
         return exports::regions_page(script, compartment, from, out);
     }
     exports::segments_page(script, compartment, from, out)
@@ -123,7 +124,7 @@ fn read_list(script: &[u8], width: usize, compartment: u64) {
 fn read_lists(script: &[u8], compartment: u64) {
     read_list(script, 5, compartment);
     read_list(script, 3, compartment);
-    read_list(script, 8, compartment);
+    read_list(script, RECORD_LEN, compartment);
     read_list(script, 4, compartment);
 }
 

@@ -3,7 +3,9 @@
 ghost use Prim.Native.Nat.{_≤_};
 ghost use lib.ListN.{length};
 ghost use Rattle.io.specs.Counts.{Counts};
+ghost use Rattle.definitions.specs.Pages.{recordLen};
 use columns::Column;
+use definitions::RECORD_LEN;
 use libc::STDIN_FILENO;
 use libc::STDOUT_FILENO;
 
@@ -35,10 +37,10 @@ fn write_output(script: &[u8]) {
 
 // A line of numbers, put together first so that it is one call and not one for each number.
 fn write_line(numbers: &[u64])
-    requires { ⌜ length (now numbers) ≤ 8 ⌝ }
+    requires { ⌜ length (now numbers) ≤ recordLen ⌝ }
 {
     // all line ends at first: one is left behind the last number
-    let mut line = [b'\n'; 169];
+    let mut line = [b'\n'; 21 * RECORD_LEN + 1];
     let mut i = 0;
     while i < numbers.len() {
         columns::write(&mut line, 21 * i, 21, numbers[i]);
@@ -50,7 +52,7 @@ fn write_line(numbers: &[u64])
 
 // So many groups of a width, a line each.
 fn write_groups(numbers: &[u64], width: usize, many: u64)
-    requires { ⌜ width ≤ 8 ⌝ }
+    requires { ⌜ width ≤ recordLen ⌝ }
 {
     let mut from = 0;
     let mut left = many;
@@ -67,13 +69,13 @@ fn write_groups(numbers: &[u64], width: usize, many: u64)
 
 // A list under a line that says whose it is, how wide and how long; nothing of one that is empty.
 fn write_list(compartment: u64, width: usize, answer: u64, numbers: &[u64])
-    requires { ⌜ width ≤ 8 ⌝ }
+    requires { ⌜ width ≤ recordLen ⌝ }
 {
     if answer == 0 {
         return;
     }
     // more groups than the slice has numbers: a refusal
-    if answer > 8192 {
+    if answer > numbers.len() as u64 {
         return;
     }
     let head = [compartment, width as u64, answer];
@@ -83,9 +85,9 @@ fn write_list(compartment: u64, width: usize, answer: u64, numbers: &[u64])
 
 // The three lists of a compartment, each read at one go.
 fn write_lists(script: &[u8], compartment: u64) {
-    let mut numbers = [0u64; 8192];
+    let mut numbers = [0u64; 1024 * RECORD_LEN];
     let regions = exports::regions_page(script, compartment, 0, &mut numbers);
-    write_list(compartment, 8, regions, &numbers);
+    write_list(compartment, RECORD_LEN, regions, &numbers);
     let segments = exports::segments_page(script, compartment, 0, &mut numbers);
     write_list(compartment, 4, segments, &numbers);
     let stream = exports::stream_page(script, compartment, 0, &mut numbers);

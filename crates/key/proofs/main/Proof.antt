@@ -2,13 +2,14 @@ use mathlib.Core.Path.{_≡_, refl, _∙_}
 use mathlib.Core.List.{[]}
 use lib.ListN.{length}
 use borrow.Author.Needs.{needs}
+use Rattle.capability_engine.specs.PoolWords.{poolLen}
 use Rattle.capability_engine.specs.CompartmentGrown.{IsGrown}
 use Rattle.key.proofs.main.Statement.{statement}
 use Rattle.key.proofs.main.Tie as tie
 
 abbrev Inv-loop : tie.InvT-loop
 Inv-loop words₀ next₀ links₀ gens₀ input₀ well going₀ turns₀ words next links gens input going turns =
-    (length words ≡ 8192) × (length next ≡ 1025) × (length links ≡ 1024) × (length gens ≡ 1024) × (length input ≡ 65536) × IsGrown words next links gens (going .tables)
+    (length words ≡ poolLen) × (length next ≡ 1025) × (length links ≡ 1024) × (length gens ≡ 1024) × (length input ≡ 65536) × IsGrown words next links gens (going .tables)
 
 abbrev μ-loop : tie.MeasureT-loop
 μ-loop words₀ next₀ links₀ gens₀ input₀ well going₀ turns₀ words next links gens input going turns = turns

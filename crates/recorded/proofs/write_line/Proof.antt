@@ -1,13 +1,14 @@
-use Prim.Native.Nat.{_-_, _≤_}
+use Prim.Native.Nat.{_+_, _*_, _-_, _≤_}
 use mathlib.Core.Path.{_≡_, sym}
 use lib.ListN.{length}
 use lib.Seq.{length-take-le}
 use borrow.Author.Needs.{needs}
+use Rattle.definitions.specs.Pages.{recordLen}
 use Rattle.recorded.proofs.write_line.Statement.{statement}
 use Rattle.recorded.proofs.write_line.Tie as tie
 
 abbrev Inv-loop : tie.InvT-loop
-Inv-loop numbers line₀ i₀ line i = (i ≤ length numbers) × (length line ≡ 169)
+Inv-loop numbers line₀ i₀ line i = (i ≤ length numbers) × (length line ≡ 21 * recordLen + 1)
 
 abbrev μ-loop : tie.MeasureT-loop
 μ-loop numbers line₀ i₀ line i = length numbers - i
