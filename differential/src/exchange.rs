@@ -1,19 +1,38 @@
-//! A right in the place of uncacheable. The original counts read, write, exec and super, and has a mark for uncacheable; document 02, order
-//! 8, counts all alike. So the port is given a script with uncacheable exchanged for one of the four, and what it gives has the two
-//! exchanged back: the original, which is given the script as it is, judges how uncacheable is counted by how it counts that right.
-use crate::counts::{place, UNCACHEABLE};
+//! Rights in the place of uncacheable and device. The original counts read, write, exec and super, has a mark for uncacheable and no
+//! device right; document 02, orders 8 and 10, count all alike. So the port is given a script with uncacheable and device exchanged
+//! for two of the four, and what it gives has them exchanged back: the original, which is given the script as it is, judges how the
+//! two are counted by how it counts those rights.
+use crate::counts::{place, ALL, DEVICE, UNCACHEABLE};
 use crate::line::{Call, Kind};
 use crate::port::List;
 
-/// The right that the port is given uncacheable for, and that for uncacheable. Without one, all stays as it is.
+/// The rights that the port is given uncacheable and device for, and those for the two. Without any, all stays as it is.
 #[derive(Clone, Copy, Default)]
-pub struct Exchange(pub Option<u64>);
+pub struct Exchange(pub Option<[u64; 2]>);
 
 impl Exchange {
+    /// One of the twelve ways to choose two of the four.
+    pub fn number(i: u64) -> Exchange {
+        Exchange(Some([1 << (i % 4), 1 << ((i + 1 + i / 4 % 3) % 4)]))
+    }
+
+    fn pairs(self) -> impl Iterator<Item = (u64, u64)> {
+        self.0.into_iter().flat_map(|rights| [UNCACHEABLE, DEVICE].into_iter().zip(rights))
+    }
+
     fn rights(self, rights: u64) -> u64 {
-        let Some(right) = self.0.filter(|_| rights < 32) else { return rights };
-        let bit = |from: u64, to: u64| if rights & from != 0 { to } else { 0 };
-        (rights & !(UNCACHEABLE | right)) | bit(UNCACHEABLE, right) | bit(right, UNCACHEABLE)
+        let exchanged = |rights: u64, (a, b): (u64, u64)| {
+            let one = (rights & a != 0) != (rights & b != 0);
+            if one {
+                rights ^ (a | b)
+            } else {
+                rights
+            }
+        };
+        if rights > ALL {
+            return rights;
+        }
+        self.pairs().fold(rights, exchanged)
     }
 
     /// A line for the port. One that is no add and no remove stays as it is.
@@ -26,14 +45,13 @@ impl Exchange {
 
     /// A list that the port gives, as the original would have it, or the other way.
     pub fn list(self, list: List, mut numbers: Vec<u64>) -> Vec<u64> {
-        let Some(right) = self.0 else { return numbers };
         for group in numbers.chunks_exact_mut(list.width()) {
             match list {
                 List::Stream | List::Permissions => {
                     let rights = group.len() - 1;
                     group[rights] = self.rights(group[rights]);
                 }
-                List::Regions => group.swap(place(right), place(UNCACHEABLE)),
+                List::Regions => self.pairs().for_each(|(a, b)| group.swap(place(a), place(b))),
                 List::Segments => (),
             }
         }

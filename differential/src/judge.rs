@@ -3,6 +3,7 @@ use crate::line::{Call, Kind};
 use original::region::new_pool;
 use original::{CapaError, Mapping, MemOps, PermissionChange, Pool, RegionTracker, Remapper};
 use std::cell::RefCell;
+use std::collections::BTreeSet;
 use std::panic::{self, AssertUnwindSafe};
 
 pub struct Tables {
@@ -148,7 +149,7 @@ impl Tables {
 
     /// Tables with the segments of these, and with these permissions of one compartment: each is added once, but twice where it touches
     /// the one before with equal rights and that was added once, so that the original does not join the two.
-    pub fn with_permissions(self, k: usize, permissions: &[u64]) -> Option<Tables> {
+    fn with_permissions(self, k: usize, permissions: &[u64]) -> Option<Tables> {
         let mut tables = Tables { remappers: self.remappers, ..Tables::default() };
         let (mut last, mut once) = ([0; 2], false);
         for p in permissions.chunks_exact(3) {
@@ -159,6 +160,18 @@ impl Tables {
             (last, once) = ([p[1], p[2]], !again);
         }
         (tables.permissions(k) == permissions).then_some(tables)
+    }
+
+    /// The stream of one compartment with the segments of these tables and with these permissions. Each kind of rights has one of the 32
+    /// that the original knows in its place, since the stream only hands them on.
+    pub fn stream_of(self, k: usize, permissions: &[u64]) -> Option<Vec<u64>> {
+        let kinds: BTreeSet<u64> = permissions.chunks_exact(3).map(|p| p[2]).collect();
+        let kinds: Vec<u64> = kinds.into_iter().collect();
+        let place = |rights: u64| kinds.binary_search(&rights).expect("each is among them") as u64;
+        let known: Vec<u64> = permissions.chunks_exact(3).flat_map(|p| [p[0], p[1], place(p[2])]).collect();
+        let mut stream = self.with_permissions(k, &known)?.stream(k);
+        stream.chunks_exact_mut(5).for_each(|m| m[4] = kinds[m[4] as usize]);
+        Some(stream)
     }
 
     pub fn overlaps(&self, k: usize, start: u64, size: u64) -> bool {
@@ -183,8 +196,9 @@ impl Tables {
         all.flat_map(|p| [p.start as u64, p.end as u64, rights(p.ops)]).collect()
     }
 
+    /// Each record, with a device count that is always 0.
     pub fn regions(&self, k: usize) -> Vec<u64> {
-        self.trackers[k].iter(&self.pool).flat_map(|(_, region)| region.values()).collect()
+        self.trackers[k].iter(&self.pool).flat_map(|(_, region)| region.values().into_iter().chain([0])).collect()
     }
 
     pub fn segments(&self, k: usize) -> Vec<u64> {

@@ -1,4 +1,5 @@
 //! The port, by its exported functions. Each runs a script from empty tables.
+use crate::counts::RECORD;
 
 extern "C" {
     fn run_script(script: *const u8, len: usize, out: *mut u8, room: usize) -> usize;
@@ -35,7 +36,7 @@ impl List {
         match self {
             List::Stream => 5,
             List::Permissions => 3,
-            List::Regions => 8,
+            List::Regions => RECORD,
             List::Segments => 4,
         }
     }

@@ -1,5 +1,6 @@
 //! What a run has seen, as a table, and the smallest script for each thing that the two sides do differently.
 use crate::compare::{check, Asked, Class, Depth, Script, Tally};
+use crate::counts::RECORD;
 use crate::judge::Tables;
 use crate::line::{self, Call};
 use crate::port::{self, List};
@@ -107,7 +108,7 @@ fn row(number: usize, class: &Class, lines: &[Vec<u8>]) -> String {
             let theirs = [tables.regions(k), tables.segments(k)];
             let ours = [List::Regions, List::Segments].map(|list| port::whole(list, &text, k as u64));
             for (text, all, other) in [(&mut original, &theirs, &ours), (&mut port, &ours, &theirs)] {
-                let (records, segments) = (groups(&all[0], &other[0], 8), groups(&all[1], &other[1], 4));
+                let (records, segments) = (groups(&all[0], &other[0], RECORD), groups(&all[1], &other[1], 4));
                 let _ = write!(text, "; then records {records}, segments {segments}");
             }
         } else {

@@ -188,10 +188,10 @@ fn plain(r: &mut Random) -> u64 {
 }
 
 fn every(r: &mut Random) -> u64 {
-    if r.once_in(25) {
-        r.one_of(&[32, 33, 128, u64::MAX])
-    } else {
-        r.below(32)
+    match r.below(25) {
+        0 => r.one_of(&[64, 65, 128, u64::MAX]),
+        1..=3 => 32 + r.below(32),
+        _ => r.below(32),
     }
 }
 
@@ -367,20 +367,20 @@ fn full_counts() -> Script {
     let add = |start, end, rights| Call::new(Kind::Add, 0, &[start, end, rights]);
     let mut calls = vec![add(5, 6, 3); 65535];
     let known = calls.len();
-    calls.extend([add(5, 6, 3), add(5, 6, 0), add(4, 6, 1), add(6, 7, 1)]);
+    calls.extend([add(5, 6, 3), add(5, 6, 0), add(5, 6, 32), add(4, 6, 1), add(6, 7, 1)]);
     calls.push(Call::new(Kind::Remove, 0, &[5, 6, 1]));
     calls.extend([add(5, 6, 1), add(5, 6, 1), Call::new(Kind::Print, 0, &[])]);
     Script { known, ..script_of(&calls) }
 }
 
-/// A count at 65,535 with one holder: behind each add but the first a remove that names nothing; then calls about it.
-fn full_count_alone() -> Script {
+/// A right's count at 65,535 with one holder: behind each add but the first a remove that names nothing; then calls about it.
+fn full_count_alone(right: u64) -> Script {
     let call = |kind, rights| Call::new(kind, 0, &[5, 6, rights]);
-    let again = [call(Kind::Add, 1), call(Kind::Remove, 0)];
-    let mut calls = vec![call(Kind::Add, 1)];
+    let again = [call(Kind::Add, right), call(Kind::Remove, 0)];
+    let mut calls = vec![call(Kind::Add, right)];
     calls.extend(again.iter().cycle().take(2 * 65534));
     let known = calls.len();
-    calls.extend([call(Kind::Add, 1), call(Kind::Add, 2), call(Kind::Remove, 1), call(Kind::Add, 1)]);
+    calls.extend([call(Kind::Add, right), call(Kind::Add, 4), call(Kind::Remove, right), call(Kind::Add, right)]);
     Script { known, ..script_of(&calls) }
 }
 
@@ -401,7 +401,7 @@ fn refusals() -> Script {
     let call = |kind, compartment, numbers: &[u64]| Call::new(kind, compartment, numbers);
     let mut calls = vec![
         call(Kind::Add, 8, &[0, 1, 1]),
-        call(Kind::Add, 0, &[0, 1, 32]),
+        call(Kind::Add, 0, &[0, 1, 64]),
         call(Kind::Add, 0, &[1, 0, 1]),
         call(Kind::Remove, 0, &[0, 1, 1]),
         call(Kind::Add, 0, &[0, 10, 1]),
@@ -478,6 +478,19 @@ fn shared_buffers() -> Script {
     script_of(&calls)
 }
 
+/// Calls that name device, of which the original has none: every answer they can get but 4. Where they are accepted, the next
+/// is on what was held before.
+fn device_calls() -> Script {
+    let call = |kind, numbers: &[u64]| Call::new(kind, 0, numbers);
+    let mut calls = vec![allow(0, 2), call(Kind::Add, &[0, 10, 1]), call(Kind::Add, &[20, 30, 3])];
+    for kind in [Kind::Add, Kind::Remove] {
+        let ranges = [[5, 4], [5, 5], [0, 10], [20, 30], [5, 10], [0, 30], [12, 25], [0, 5]];
+        calls.extend(ranges.map(|[start, end]| call(kind, &[start, end, 33])));
+    }
+    calls.extend([call(Kind::Remove, &[0, 10, 1]), call(Kind::Remove, &[0, 10, 32]), call(Kind::Add, &[0, 10, 32])]);
+    script_of(&calls)
+}
+
 /// A segment, and one behind another of a higher guest address: `overlaps` is asked about both.
 fn one_and_two() -> [Script; 2] {
     let map = |numbers: &[u64]| Call::new(Kind::Map, 0, numbers);
@@ -485,16 +498,18 @@ fn one_and_two() -> [Script; 2] {
 }
 
 /// Scripts that reach every answer, every reason to name a call and every departure of `overlaps`, whatever the seed.
-pub fn fixed() -> [Script; 9] {
+pub fn fixed() -> [Script; 11] {
     let [one, two] = one_and_two();
     [
         refusals(),
         full_pool(),
         full_counts(),
-        full_count_alone(),
+        full_count_alone(1),
+        full_count_alone(2),
         small_allowance(),
         named_unmaps(),
         shared_buffers(),
+        device_calls(),
         one,
         two,
     ]
