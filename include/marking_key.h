@@ -26,7 +26,7 @@ extern "C" {
 /* How many numbers a group has. */
 #define MARKING_KEY_MAPPING 5    /* hpa, gpa, size, repeat, rights */
 #define MARKING_KEY_PERMISSION 3 /* start, end, rights */
-#define MARKING_KEY_REGION 8     /* start, end, holders, counts of read, write, exec, super, uncacheable */
+#define MARKING_KEY_REGION 9     /* start, end, holders, counts of read, write, exec, super, uncacheable, device */
 #define MARKING_KEY_SEGMENT 4    /* hpa, gpa, size, repeat */
 
 /*
