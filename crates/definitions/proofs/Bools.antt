@@ -6,7 +6,7 @@ use mathlib.Core.List.{List, [], _∷_, _++_, map}
 use native.Mathlib.Omega.{arith}
 use lib.Dec.{ltb, leb}
 use borrow.Author.Tests.{ltb-true, ltb-false, leb-true, leb-false, lt-ltb, le-ltb, le-leb, lt-leb}
-use Rattle.definitions.specs.Tests.{if_then_else_, inside, bit, any, count, keep}
+use Rattle.definitions.specs.Tests.{_=?_, if_then_else_, inside, bit, any, count, keep}
 
 -- where an address lies
 pub data Where (a e x : ℕ) : Type 0 where
@@ -113,6 +113,19 @@ count-none p q (x ∷ xs) e = go (p x) refl e (λ f. count-none p q xs f)
 pub or-true : (b : Bool) → (b || true) ≡ true
 or-true true = refl
 or-true false = refl
+
+pub or-false : (b : Bool) → (b || false) ≡ b
+or-false true = refl
+or-false false = refl
+
+pub or-assoc : (a b c : Bool) → (a || (b || c)) ≡ ((a || b) || c)
+or-assoc true b c = refl
+or-assoc false b c = refl
+
+-- a test that is told as a number, and asked again
+pub one-bit : (b : Bool) → (bit b =? 1) ≡ b
+one-bit true = refl
+one-bit false = refl
 
 -- both parts of a test that is passed
 pub both : (s t : Bool) → (s && t) ≡ true → (s ≡ true) × (t ≡ true)

@@ -15,19 +15,18 @@ use Rattle.definitions.proofs.StreamLaws.{agrees}
 use Rattle.definitions.proofs.Reckoned.{reckoned}
 use Rattle.definitions.proofs.Stored.{stored}
 
-pub record Demand3 (calls : List Call) (k : ℕ) : Type 0 where
+-- of a compartment c that is reckoned as r
+pub record Demand3 (c r : Compartment) : Type 0 where
   -- the compartment's stream is its reckoning's
-  pub whole : streamOf (compartment (after calls) k) ≡ streamOf (reckoning k (fed calls))
+  pub whole : streamOf c ≡ streamOf r
   -- which it agrees with at every address
-  pub agreed : (x : HostAddr) → x .0 < 2 ^ 64 → AgreesAt x (reckoning k (fed calls)) (streamOf (compartment (after calls) k))
+  pub agreed : (x : HostAddr) → x .0 < 2 ^ 64 → AgreesAt x r (streamOf c)
   -- pages into slices of these lengths, the last of which answers fewer groups than fit it, are the whole in order
   pub paged : (rooms : List ℕ) (room : ℕ)
-      → length (page 5 (streamGroups (compartment (after calls) k)) (pagesEnd 5 (streamGroups (compartment (after calls) k)) 0 rooms) room) < room / 5
-      → pagesFrom 5 (streamGroups (compartment (after calls) k)) 0 rooms
-      ++ page 5 (streamGroups (compartment (after calls) k)) (pagesEnd 5 (streamGroups (compartment (after calls) k)) 0 rooms) room
-      ≡ streamGroups (reckoning k (fed calls))
+      → length (page 5 (streamGroups c) (pagesEnd 5 (streamGroups c) 0 rooms) room) < room / 5
+      → pagesFrom 5 (streamGroups c) 0 rooms ++ page 5 (streamGroups c) (pagesEnd 5 (streamGroups c) 0 rooms) room ≡ streamGroups r
 
-pub demand3 : (calls : List Call) (k : ℕ) → Demand3 calls k
+pub demand3 : (calls : List Call) (k : ℕ) → Demand3 (compartment (after calls) k) (reckoning k (fed calls))
 unfolding streamOf
 demand3 calls k = record {
   whole = ap streamOf same;

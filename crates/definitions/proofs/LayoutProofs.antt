@@ -238,7 +238,7 @@ module _ (k : ℕ) (e : suc (suc k) ≡ 1024) where
 -- ---- all rows
 
 -- the ends of its ranges are 64-bit numbers
-fitsCall : Call → Bool
+unfoldable pub fitsCall : Call → Bool
 fitsCall (Add k a e r) = e .0 ≤? 2 ^ 64
 fitsCall (Remove k a e r) = e .0 ≤? 2 ^ 64
 fitsCall (Refcount k a e) = true
@@ -265,12 +265,12 @@ fits-call (Remap k i n) h = tt
 fits-call (Mappings k) h = tt
 fits-call (Allow k n) h = tt
 
-fit-all : (cs : List Call) → all fitsCall cs ≡ true → AllFit cs
+pub fit-all : (cs : List Call) → all fitsCall cs ≡ true → AllFit cs
 fit-all [] h = tt
 fit-all (c ∷ cs) h = let p = both (fitsCall c) (all fitsCall cs) h in (fits-call c (p .0), fit-all cs (p .1))
 
 -- all that the rows compute with, named once
-opened : Unit {0}
+unfoldable pub opened : Unit {0}
 unfolding inside host guest hostUp guestUp fits RIGHTS named nothing held raise lower rightsOf region within meets same joins join joined splits cut freed segment hostEnd spanEnd inOrder place overlaps isIdentity mapped front rest cutOut hostTouched hostParts unmapped touched spanWhole spanInside spanParts placeAll unmappedGpa empty compartmentOf withSegments ask everyNamed begun lastEnd cutsFit canLower ranged onOverlaps onMap onUnmap onUnmapGpa row sameTable sameList sameStream two storedOne smallRows allowanceRows sharedPart segmentYields identity merge below above without leftOver streamOn gap fill change peak added removed hole gaps noTable canRaiseOn addChangeOn newRecordsOn removeChangeOn addOn removeOn allowOn answerOn leaves together others allowed startOn asksOn nextOn afterOn holdsAfter fitsCall
 opened = tt
 

@@ -27,6 +27,8 @@ pub mod Demand
 pub mod GivenBack
 pub mod Tables
 pub mod TableLaws
+pub mod Bundles
 pub mod Independence
 pub mod LayoutProofs
+pub mod BundleExamples
 pub mod ScriptExamples

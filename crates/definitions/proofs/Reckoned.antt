@@ -163,12 +163,21 @@ module _ (P : Compartment → Type 0)
   unfolding after start
   always e calls = alwaysFrom calls start refl (λ k. rw (start-empty k) e)
 
--- one call more
-afterFrom-snoc : (calls : List Call) (s : State) (c : Call) → afterFrom s (calls ++ (c ∷ [])) ≡ next (afterFrom s calls) c
+-- more calls, one call more
+pub afterFrom-append : (cs ds : List Call) (s : State) → afterFrom s (cs ++ ds) ≡ afterFrom (afterFrom s cs) ds
 unfolding afterFrom
-afterFrom-snoc [] s c = refl
-afterFrom-snoc (d ∷ ds) s c = afterFrom-snoc ds (next s d) c
+afterFrom-append [] ds s = refl
+afterFrom-append (c ∷ cs) ds s = afterFrom-append cs ds (next s c)
+
+pub fedFrom-append : (cs ds : List Call) (s : State) → fedFrom s (cs ++ ds) ≡ fedFrom s cs ++ fedFrom (afterFrom s cs) ds
+unfolding afterFrom fedFrom
+fedFrom-append [] ds s = refl
+fedFrom-append (c ∷ cs) ds s = ap (λ l. (c, accepted (answer s c)) ∷ l) (fedFrom-append cs ds (next s c))
+
+pub after-append : (cs ds : List Call) → after (cs ++ ds) ≡ afterFrom (after cs) ds
+unfolding after
+after-append cs ds = afterFrom-append cs ds start
 
 pub after-snoc : (calls : List Call) (c : Call) → after (calls ++ (c ∷ [])) ≡ next (after calls) c
-unfolding after
-after-snoc calls c = afterFrom-snoc calls start c
+unfolding afterFrom
+after-snoc calls c = after-append calls (c ∷ [])

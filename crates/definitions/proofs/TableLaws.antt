@@ -15,6 +15,8 @@ use Rattle.definitions.specs.Segments.{mapped, unmapped, unmappedGpa}
 use Rattle.definitions.specs.Reckoning.{Compartment, empty, reckon, compartmentOf, withValues, withSegments}
 use Rattle.definitions.specs.Questions.{ask, accepted, ranged, onAdd, onRemove, onRefcount, onOverlaps, onMap, onUnmap, onUnmapGpa, onAllow}
 use Rattle.definitions.specs.Calls.{State, start, compartment, allowance, others, streamOf, streamGroups, permissionGroups, answerIn, answer, allowed, next, afterFrom}
+use Rattle.definitions.specs.Script.{Line, call as says, malformed}
+use Rattle.definitions.specs.Bundles.{callsIn, andThen, inTurn}
 use Rattle.definitions.specs.declared.addr.HostAddr.{HostAddr}
 use Rattle.definitions.specs.declared.region.Values.{Values}
 use Rattle.definitions.specs.declared.answer.Refusal.the-variants.{InvalidRange, InvalidMemOps}
@@ -27,7 +29,7 @@ use Rattle.definitions.proofs.RunLaws.{regions-below}
 use Rattle.definitions.proofs.RegionsAre.{raised-blank, lowered-blank, added-is, removed-is}
 use Rattle.definitions.proofs.PeakLaws.{unheld-gaps}
 use Rattle.definitions.proofs.AddressLaws.{can-raise-is, add-change-is, remove-change-is}
-use Rattle.definitions.proofs.Tables.{Table, noTable, canRaiseOn, addChangeOn, newRecordsOn, removeChangeOn, addOn, removeOn, allowOn, answerOn, leaves, Shelf, startOn, asksOn, nextOn, afterOn}
+use Rattle.definitions.proofs.Tables.{Table, noTable, canRaiseOn, addChangeOn, newRecordsOn, removeChangeOn, addOn, removeOn, allowOn, answerOn, leaves, Shelf, startOn, asksOn, nextOn, afterOn, inTurnOn}
 
 pub record Shown (c : Compartment) (t : Table) : Type 0 where
   pub blank : Blank (c .values)
@@ -208,3 +210,10 @@ pub after-is : (calls : List Call) (s : State) (ts : Shelf) → AllFit calls →
 unfolding afterFrom afterOn
 after-is [] s ts h m = m
 after-is (c ∷ cs) s ts h m = after-is cs (next s c) (nextOn ts c) (h .1) (next-is s ts m c (h .0))
+
+pub in-turn-is : (groups : List Line) (s : State) (ts : Shelf) → AllFit (callsIn groups) → Shows s ts → inTurn s groups ≡ inTurnOn ts groups
+unfolding inTurn inTurnOn callsIn
+in-turn-is [] s ts h m = refl
+in-turn-is (says c ∷ gs) s ts h m =
+    ap₂ andThen (asks-is s ts m c (h .0)) (in-turn-is gs (next s c) (nextOn ts c) (h .1) (next-is s ts m c (h .0)))
+in-turn-is (malformed ∷ gs) s ts h m = refl

@@ -12,12 +12,14 @@ use Rattle.definitions.specs.Pages.{page, mappingGroup, permissionGroup}
 use Rattle.definitions.specs.Reckoning.{compartmentOf, empty, withSegments}
 use Rattle.definitions.specs.Questions.{ask, accepted, ranged, everyNamed, begun, lastEnd, cutsFit, canLower, onOverlaps, onMap, onUnmap, onUnmapGpa}
 use Rattle.definitions.specs.Calls.{others, allowed}
+use Rattle.definitions.specs.Script.{Line, call as says, malformed}
+use Rattle.definitions.specs.Bundles.{andThen}
 use Rattle.definitions.specs.declared.addr.HostAddr.{HostAddr}
 use Rattle.definitions.specs.declared.region.Region.{Region}
 use Rattle.definitions.specs.declared.remapper.Segment.{Segment}
-use Rattle.definitions.specs.declared.answer.Refusal.the-variants.{NoCompartment, CountFull, OutOfMemory, InvalidRegion, EndedBefore, CountEmpty, PoolExceeded, StillInUse}
+use Rattle.definitions.specs.declared.answer.Refusal.the-variants.{NoCompartment, CountFull, OutOfMemory, InvalidRegion, EndedBefore, CountEmpty, Malformed, PoolExceeded, StillInUse}
 use Rattle.definitions.specs.declared.answer.Answer.{Answer}
-use Rattle.definitions.specs.declared.answer.Answer.the-variants.{Accepted}
+use Rattle.definitions.specs.declared.answer.Answer.the-variants.{Accepted, Refused}
 use Rattle.definitions.specs.declared.call.Call.{Call}
 use Rattle.definitions.specs.declared.call.Call.the-variants.{Add, Remove, Refcount, Overlaps, Map, Unmap, UnmapGpa, Permissions, Remap, Mappings, Allow}
 use Rattle.definitions.proofs.Lists.{added, removed}
@@ -120,3 +122,9 @@ nextOn ts call =
 unfoldable pub afterOn : Shelf → List Call → Shelf
 afterOn ts [] = ts
 afterOn ts (c ∷ cs) = afterOn (nextOn ts c) cs
+
+-- a bundle's calls
+unfoldable pub inTurnOn : Shelf → List Line → Answer
+inTurnOn ts [] = Accepted 0
+inTurnOn ts (says c ∷ gs) = andThen (asksOn ts c) (inTurnOn (nextOn ts c) gs)
+inTurnOn ts (malformed ∷ gs) = Refused Malformed

@@ -11,5 +11,6 @@ pub mod Questions
 pub mod Calls
 pub mod Script
 pub mod Layouts
+pub mod Bundles
 pub mod Independence
 pub mod Tally

@@ -18,9 +18,10 @@ pub enum Refusal {
     NoSlot, // 12: at most 64 segments would be stored
     Repeated, // 15: what a guest unmap cuts has repeat 1
     OthersTouched, // 16: a range strictly inside one segment touches no other; never a no since order 1
-    Malformed, // 17: the script line has the form
+    Malformed, // 17: the script line, or the group of a bundle, has the form
     PoolExceeded, // 18: the allowances are together at most 1,024
     StillInUse, // 19: the compartment's records in use are within the new allowance
+    BundleTooLong, // 24: a bundle has at most 32 calls
 }
 
 // Accepted with a value, or refused.
@@ -51,6 +52,7 @@ impl Refusal {
             Refusal::Malformed => 17,
             Refusal::PoolExceeded => 18,
             Refusal::StillInUse => 19,
+            Refusal::BundleTooLong => 24,
         }
     }
 }
