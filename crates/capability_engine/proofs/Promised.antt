@@ -41,11 +41,11 @@ use Rattle.capability_engine.proofs.stream.next_mapping.Reads as next-m
 use Rattle.capability_engine.proofs.stream.next_mapping.Kinds as next-mapping-kinds
 
 -- a function's contract gives a promise about its arguments a, its answer z and what it leaves, e
-abbrev Gives : (n : ℕ) (ps : List (PK n)) (r : RK n) → Out n ps r → Out n ps r → Type 0
+abbrev pub Gives : (n : ℕ) (ps : List (PK n)) (r : RK n) → Out n ps r → Out n ps r → Type 0
 Gives n ps r contract promise =
     (κs : Lfts n) (a : Dens κs ps) (z : resT r κs .Denot) (e : AtExit (endedOf n ps r) κs) → contract κs a z e → promise κs a z e
 
-abbrev memory : List ℕ → List ℕ → List ℕ → List ℕ → Tables → Memory
+abbrev pub memory : List ℕ → List ℕ → List ℕ → List ℕ → Tables → Memory
 memory words next links gens t = record { words = words; next = next; links = links; gens = gens; tables = t }
 
 new-creates : Gives 4 new-kinds.ps new-kinds.r new.Learnt (λ κs a z e.

@@ -35,7 +35,7 @@ use Rattle.capability_engine.specs.declared.script.Task.the-variants.{Te
 use Rattle.capability_engine.specs.PoolOwn.{heap}
 use Rattle.capability_engine.specs.RegionAsks.{Allotted}
 use Rattle.capability_engine.specs.RemapHeld.{IsHeld, IsSound}
-use Rattle.capability_engine.specs.CompartmentGrown.{Holds, allowancesOf, trackersOf, Grown, Sized}
+use Rattle.capability_engine.specs.CompartmentGrown.{Holds, allowancesOf, trackersOf, Grown, IsGrown, Sized}
 use Rattle.capability_engine.specs.CompartmentSteps.{onRegions, onSegments, noTracker, OnRegions, OnSegments, OnAllow}
 use Rattle.capability_engine.specs.ScriptFeed.{owed, due, comes, Feeds}
 use Rattle.capability_engine.specs.ScriptSteps.{taskPrints, taskLeaves, Hears, bytesOf, Adds, told, Prints, linesOn, Shows, started, Goes}
@@ -123,6 +123,14 @@ module _ (calls : List Call) (line : List ℕ) (p : Progress) (input out words n
 -- the slices of the pool keep their lengths
 pub sized : (words next links gens : List ℕ) (t : Tables) (calls : List Call) → Grown words next links gens t calls → Sized words next links gens
 sized words next links gens t calls g = (g .pooled .wordsSize, g .pooled .nextSize, g .pooled .arena .grown .list .size, g .pooled .arena .grown .size)
+
+pub lengths : (words next links gens : List ℕ) (t : Tables) → IsGrown words next links gens t
+    → (words' next' links' gens' : List ℕ) (t' : Tables) → IsGrown words' next' links' gens' t'
+    → (length words' ≡ length words) × (length next' ≡ length next) × (length links' ≡ length links) × (length gens' ≡ length gens)
+lengths words next links gens t g words' next' links' gens' t' h =
+    let a = sized words next links gens t (g .calls) (g .grown) in
+    let b = sized words' next' links' gens' t' (h .calls) (h .grown) in
+    (omega (arith, a, b), omega (arith, a, b), omega (arith, a, b), omega (arith, a, b))
 
 module _ (words next links gens : List ℕ) (t : Tables) (calls : List Call) (g : Grown words next links gens t calls) (k : ℕ) (l : k < 8) where
   at-tracker : (d : RegionTracker) → getD (t .trackers) k d ≡ getD (t .trackers) k noTracker

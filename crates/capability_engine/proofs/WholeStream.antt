@@ -1,11 +1,11 @@
--- Demand 3: whatever is called, the whole stream that is read of a compartment is that of its reckoning. And document 02, order
+-- Demand 3: whatever is called, bundles among it, the whole stream that is read of a compartment is that of its reckoning. And document 02, order
 -- 4: the others' calls change nothing of it.
 use Prim.Native.Nat.{ℕ, _+_, _*_, _-_, _<_, _≤_}
 use mathlib.Core.Path.{_≡_, refl, sym, ap, ap₂, _∙_, subst}
-use mathlib.Core.Bool.{Bool}
+use mathlib.Core.Bool.{Bool, true}
 use mathlib.Core.List.{List, [], _∷_, _++_, map, append-nil, append-assoc}
 use native.Mathlib.Omega.{arith}
-use borrow.Author.Tests.{lt-ltb}
+use borrow.Author.Tests.{lt-ltb, eq-eqb}
 use lib.ListN.{length, getD, take, drop, length-map, length-take, length-drop}
 use lib.Seq.{take-at, drop-append-seam}
 use Rattle.definitions.specs.Tests.{each}
@@ -14,7 +14,9 @@ use Rattle.definitions.specs.Stream.{stream}
 use Rattle.definitions.specs.Pages.{page, filled, mappingGroup}
 use Rattle.definitions.specs.Reckoning.{Compartment, compartmentOf, reckoning}
 use Rattle.definitions.specs.Questions.{ask, accepted}
-use Rattle.definitions.specs.Calls.{State, start, compartment, streamOf, streamGroups, answerIn, answer, next, afterFrom, after, fedFrom, fed}
+use Rattle.definitions.specs.Calls.{State, start, compartment, streamOf, streamGroups, allowance, answerIn, answer, next, after, fedFrom, fed}
+use Rattle.definitions.specs.Bundles.{Step, single, bundle, stepAnswer, stepCalls, done, callsFrom, callsOf, judgedFrom, judged, stepsFed}
+use Rattle.definitions.specs.Independence.{own}
 use Rattle.definitions.specs.declared.answer.Answer.{Answer}
 use Rattle.definitions.specs.declared.answer.Answer.the-variants.{Accepted}
 use Rattle.definitions.specs.declared.call.Call.{Call}
@@ -24,6 +26,7 @@ use Rattle.definitions.proofs.StreamLaws.{agrees}
 use Rattle.definitions.proofs.GivenBack.{gives-back}
 use Rattle.definitions.proofs.Reckoned.{reckoned}
 use Rattle.definitions.proofs.Stored.{stored}
+use Rattle.definitions.proofs.Bundles.{run-leaves-its-calls, run-feeds-its-calls, judged-snoc, callsOf-snoc}
 use Rattle.definitions.proofs.Independence.{independent, same-answer}
 use Rattle.capability_engine.specs.declared.remapper.Remapper.{Remapper}
 use Rattle.capability_engine.specs.declared.stream.RemapCursor.{RemapCursor}
@@ -32,51 +35,55 @@ use Rattle.capability_engine.specs.StreamCursor.{Table, Ready, remaining
 use Rattle.capability_engine.specs.CompartmentGrown.{pageLeft}
 use Rattle.capability_engine.specs.CompartmentSteps.{noTracker}
 use Rattle.capability_engine.specs.WholeStream as said
-use Rattle.capability_engine.specs.WholeStream.{Memory, GrownBy, Ran, Page, Paged, ByPages, Copies, Begins, Stepped, ByCursor, StreamIs, callsOf, Statement, SameFor, Independent}
+use Rattle.capability_engine.specs.WholeStream.{Memory, GrownBy, Ran, Page, Paged, ByPages, Copies, Begins, Stepped, ByCursor, StreamIs, stepsOf, Statement, Independent}
 use Rattle.capability_engine.proofs.StreamLists.{map-append, each-append}
 use Rattle.capability_engine.proofs.StreamFills.{five, map-drop}
 use Rattle.capability_engine.proofs.CompartmentFacts.{held, whole, stored-is, table}
 
--- what a reckoning is fed of one call more
-fedFrom-snoc : (calls : List Call) (s : State) (c : Call)
-    → fedFrom s (calls ++ (c ∷ [])) ≡ fedFrom s calls ++ ((c, accepted (answer (afterFrom s calls) c)) ∷ [])
-unfolding afterFrom fedFrom
-fedFrom-snoc [] s c = refl
-fedFrom-snoc (d ∷ ds) s c = ap (λ (l : List (Call × Bool)). (d, accepted (answer s d)) ∷ l) (fedFrom-snoc ds (next s d) c)
+-- the calls of what a reckoning is fed
+fed-calls : (calls : List Call) (s : State) → map (λ h. h .0) (fedFrom s calls) ≡ calls
+unfolding fedFrom
+fed-calls [] s = refl
+fed-calls (c ∷ cs) s = ap (λ l. c ∷ l) (fed-calls cs (next s c))
 
-fed-snoc : (calls : List Call) (c : Call) → fed (calls ++ (c ∷ [])) ≡ fed calls ++ ((c, accepted (answer (after calls) c)) ∷ [])
-unfolding fed after
-fed-snoc calls c = fedFrom-snoc calls start c
+-- the calls that the steps heard count as grew what they leave, and each step was accepted exactly where the definitions accept it
+record Told (m : Memory) (heard : List (Step × Bool)) : Type 0 where
+  grown : GrownBy m (callsOf (stepsOf heard))
+  same : heard ≡ judged (stepsOf heard)
 
--- the calls heard grew what they leave, and each was accepted exactly where the definitions accept it
-record Told (m : Memory) (heard : List (Call × Bool)) : Type 0 where
-  grown : GrownBy m (callsOf heard)
-  same : heard ≡ fed (callsOf heard)
-
-told-more : (m m' : Memory) (heard : List (Call × Bool)) (call : Call) (a : Answer) → Told m heard
-    → a ≡ answer (after (callsOf heard)) call → GrownBy m' (callsOf heard ++ (call ∷ []))
-    → Told m' (heard ++ ((call, accepted a) ∷ []))
-told-more m m' heard call a t e g = record {
-  grown = subst (GrownBy m') (sym more) g;
+told-more : (m' : Memory) (heard : List (Step × Bool)) (x : Step) (a : Answer) → heard ≡ judged (stepsOf heard)
+    → a ≡ stepAnswer (after (callsOf (stepsOf heard))) x
+    → GrownBy m' (callsOf (stepsOf heard) ++ stepCalls (after (callsOf (stepsOf heard))) x)
+    → Told m' (heard ++ ((x, accepted a) ∷ []))
+told-more m' heard x a t e g = record {
+  grown =
+      subst (GrownBy m') (ap (λ s. callsOf (stepsOf heard) ++ stepCalls s x) left ∙ sym (callsOf-snoc x (stepsOf heard)) ∙ ap callsOf (sym more)) g;
   same =
-      ap₂ (λ (h : List (Call × Bool)) (b : Answer). h ++ ((call, accepted b) ∷ [])) (t .same) e
-      ∙ sym (fed-snoc (callsOf heard) call) ∙ ap fed (sym more);
+      ap₂ (λ (h : List (Step × Bool)) (b : Answer). h ++ ((x, accepted b) ∷ [])) t (e ∙ ap (λ s. stepAnswer s x) left)
+      ∙ sym (judged-snoc x (stepsOf heard)) ∙ ap judged (sym more);
 }
   where
-    more : callsOf (heard ++ ((call, accepted a) ∷ [])) ≡ callsOf heard ++ (call ∷ [])
-    more = map-append (λ h. h .0) heard ((call, accepted a) ∷ [])
+    left : after (callsOf (stepsOf heard)) ≡ done (stepsOf heard)
+    left = sym (run-leaves-its-calls (stepsOf heard))
 
-told : {m : Memory} {heard : List (Call × Bool)} → Ran m heard → Told m heard
-unfolding fed fedFrom
+    more : stepsOf (heard ++ ((x, accepted a) ∷ [])) ≡ stepsOf heard ++ (x ∷ [])
+    more = map-append (λ h. h .0) heard ((x, accepted a) ∷ [])
+
+told : {m : Memory} {heard : List (Step × Bool)} → Ran m heard → Told m heard
+unfolding judged judgedFrom callsOf callsFrom stepAnswer stepCalls
 told (said.new c) = record { grown = c .made refl; same = refl }
 told (said.changed {m} {m'} {heard} {call} {a} r p) =
     let t = told r in
-    let q = p (callsOf heard) (t .grown) in
-    told-more m m' heard call a t (q .answered) (q .grown)
+    let q = p (callsOf (stepsOf heard)) (t .grown) in
+    told-more m' heard (single call) a (t .same) (q .answered) (q .grown)
 told (said.asked {m} {heard} {call} {a} r p) =
     let t = told r in
-    let q = p (callsOf heard) (t .grown) in
-    told-more m m heard call a t (q .answered) (q .grown)
+    let q = p (callsOf (stepsOf heard)) (t .grown) in
+    told-more m heard (single call) a (t .same) (q .answered) (q .grown)
+told (said.bundled {m} {m'} {heard} {k} {ns} {a} r p) =
+    let t = told r in
+    let q = p (callsOf (stepsOf heard)) (t .grown) in
+    told-more m' heard (bundle k ns) a (t .same) (q .answered) (q .grown)
 
 -- the numbers of groups, in order
 abbrev flat : List (List ℕ) → List ℕ
@@ -200,41 +207,63 @@ module _ (m : Memory) (calls : List Call) (g : GrownBy m calls) (k : ℕ) (l : k
   }
 
 pub «whole_stream» : Statement
+unfolding fed
 «whole_stream» m heard r =
     let t = told r in
+    let hears : stepsFed heard ≡ fed (callsOf (stepsOf heard)) = ap stepsFed (t .same) ∙ run-feeds-its-calls (stepsOf heard) in
     record {
       reckoned = λ k l.
-          subst (StreamIs m k) (reckoned (callsOf heard) k ∙ ap (reckoning k) (sym (t .same)))
-          (stream-is m (callsOf heard) (t .grown) k l);
-      grown = t .grown;
+          subst (StreamIs m k) (reckoned (callsOf (stepsOf heard)) k ∙ ap (reckoning k) (sym hears))
+          (stream-is m (callsOf (stepsOf heard)) (t .grown) k l);
+      grown = subst (GrownBy m) (sym (ap (map (λ h. h .0)) hears ∙ fed-calls (callsOf (stepsOf heard)) start)) (t .grown);
     }
 
 -- two runs that agree on what is compartment k's leave it one compartment, so whatever is read of it is the same
 pub «independent_streams» : Independent
+unfolding stepAnswer own
 «independent_streams» k l m n xs ys r q e = record {
-  changes = λ call m' n' a b o s p p'.
-      p (callsOf xs) gm .answered ∙ same-answer k (callsOf xs) (callsOf ys) e call o s ∙ sym (p' (callsOf ys) gn .answered);
-  asks = λ call a b o s p p'.
-      p (callsOf xs) gm .answered ∙ same-answer k (callsOf xs) (callsOf ys) e call o s ∙ sym (p' (callsOf ys) gn .answered);
+  changes = λ call m' n' a b o s p p'. p calls gm .answered ∙ alike (single call) o s ∙ sym (p' calls' gn .answered);
+  asks = λ call a b o s p p'. p calls gm .answered ∙ alike (single call) o s ∙ sym (p' calls' gn .answered);
+  bundles = λ ns m' n' a b s p p'. p calls gm .answered ∙ alike (bundle k ns) (eq-eqb k k refl) s ∙ sym (p' calls' gn .answered);
   regions =
-      stored-is (m .words) (m .next) (m .links) (m .gens) (m .tables) (callsOf xs) gm k l
+      stored-is (m .words) (m .next) (m .links) (m .gens) (m .tables) calls gm k l
       ∙ ap (λ (c : Compartment). regions (c .values)) left
-      ∙ sym (stored-is (n .words) (n .next) (n .links) (n .gens) (n .tables) (callsOf ys) gn k l);
+      ∙ sym (stored-is (n .words) (n .next) (n .links) (n .gens) (n .tables) calls' gn k l);
   segments = λ other. (
-    compartment (after (callsOf ys)) k .segments,
+    compartment (after calls') k .segments,
     subst (λ (c : Compartment). Holds (getD (m .tables .remappers) k other) (c .segments)) left
-        (held (m .words) (m .next) (m .links) (m .gens) (m .tables) (callsOf xs) gm k l other),
-    held (n .words) (n .next) (n .links) (n .gens) (n .tables) (callsOf ys) gn k l other,
+        (held (m .words) (m .next) (m .links) (m .gens) (m .tables) calls gm k l other),
+    held (n .words) (n .next) (n .links) (n .gens) (n .tables) calls' gn k l other,
   );
-  byPages = λ got got' p p'. by-pages m (callsOf xs) gm k l p ∙ ap (λ c. flat (streamGroups c)) left ∙ sym (by-pages n (callsOf ys) gn k l p');
-  byCursor = λ found found' p p'. by-cursor m (callsOf xs) gm k l p ∙ ap streamOf left ∙ sym (by-cursor n (callsOf ys) gn k l p');
+  byPages = λ got got' p p'. by-pages m calls gm k l p ∙ ap (λ c. flat (streamGroups c)) left ∙ sym (by-pages n calls' gn k l p');
+  byCursor = λ found found' p p'. by-cursor m calls gm k l p ∙ ap streamOf left ∙ sym (by-cursor n calls' gn k l p');
 }
   where
-    gm : GrownBy m (callsOf xs)
+    calls : List Call
+    calls = callsOf (stepsOf xs)
+
+    calls' : List Call
+    calls' = callsOf (stepsOf ys)
+
+    gm : GrownBy m calls
     gm = told r .grown
 
-    gn : GrownBy n (callsOf ys)
+    gn : GrownBy n calls'
     gn = told q .grown
 
-    left : compartment (after (callsOf xs)) k ≡ compartment (after (callsOf ys)) k
-    left = independent k (callsOf xs) (callsOf ys) e .left
+    by-xs : done (stepsOf xs) ≡ after calls
+    by-xs = run-leaves-its-calls (stepsOf xs)
+
+    by-ys : done (stepsOf ys) ≡ after calls'
+    by-ys = run-leaves-its-calls (stepsOf ys)
+
+    left : compartment (after calls) k ≡ compartment (after calls') k
+    left =
+        ap (λ s. compartment s k) (sym by-xs) ∙ independent k (stepsOf xs) (stepsOf ys) e .left
+        ∙ ap (λ s. compartment s k) by-ys
+
+    alike : (x : Step) → own k x ≡ true → allowance (done (stepsOf xs)) k ≡ allowance (done (stepsOf ys)) k
+        → stepAnswer (after calls) x ≡ stepAnswer (after calls') x
+    alike x o s =
+        ap (λ t. stepAnswer t x) (sym by-xs) ∙ same-answer k (stepsOf xs) (stepsOf ys) e x o s
+        ∙ ap (λ t. stepAnswer t x) by-ys

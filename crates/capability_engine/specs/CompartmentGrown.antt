@@ -12,6 +12,7 @@ use Rattle.definitions.specs.Tests.{_<?_, if_then_else_}
 use Rattle.definitions.specs.Pages.{page, filled}
 use Rattle.definitions.specs.Questions.{ask, accepted, inUse}
 use Rattle.definitions.specs.Calls.{start, compartment, answer, after}
+use Rattle.definitions.specs.Bundles.{bundleOf, bundleAnswer, counted}
 use Rattle.definitions.specs.declared.answer.Refusal.the-variants.{NoCompartment}
 use Rattle.definitions.specs.declared.answer.Answer.{Answer}
 use Rattle.definitions.specs.declared.answer.Answer.the-variants.{Accepted}
@@ -100,6 +101,13 @@ pub record SameTables (words next links gens : List ℕ) (t : Tables) (words' ne
 pub record Answers (calls : List Call) (call : Call) (words next links gens : List ℕ) (t : Tables) (words' next' links' gens' : List ℕ) (r : Outcome) : Type 0 where
   pub answered : r .answer ≡ answer (after calls) call
   pub grown : Grown words' next' links' gens' (r .tables) (calls ++ (call ∷ []))
+  pub kept : accepted (r .answer) ≡ false → SameTables words next links gens t words' next' links' gens' (r .tables)
+
+-- a bundle for compartment k (document 02, order 9): its answer; accepted, it leaves what its calls leave one by one; refused, it
+-- leaves everything, word for word
+pub record AnswersBundle (calls : List Call) (k : ℕ) (ns words next links gens : List ℕ) (t : Tables) (words' next' links' gens' : List ℕ) (r : Outcome) : Type 0 where
+  pub answered : r .answer ≡ bundleAnswer (after calls) k (bundleOf k ns)
+  pub grown : Grown words' next' links' gens' (r .tables) (calls ++ counted (after calls) k (bundleOf k ns))
   pub kept : accepted (r .answer) ≡ false → SameTables words next links gens t words' next' links' gens' (r .tables)
 
 -- a call that only reads

@@ -13,7 +13,8 @@ use Rattle.definitions.specs.Pages.{mappingGroup}
 use Rattle.definitions.specs.Reckoning.{Compartment, reckoning}
 use Rattle.definitions.specs.Agreement.{AgreesAt, GivesBack}
 use Rattle.definitions.specs.Questions.{accepted}
-use Rattle.definitions.specs.Calls.{streamOf, streamGroups, allowance, after}
+use Rattle.definitions.specs.Calls.{streamOf, streamGroups, allowance}
+use Rattle.definitions.specs.Bundles.{Step as RunStep, single, bundle, done, stepsFed}
 use Rattle.definitions.specs.Independence.{own, seen}
 use Rattle.definitions.specs.declared.addr.HostAddr.{HostAddr}
 use Rattle.definitions.specs.declared.remapper.Segment.{Segment}
@@ -32,7 +33,7 @@ use Rattle.capability_engine.specs.RemapHeld.{Holds}
 use Rattle.capability_engine.specs.RemapListing.{Copied}
 use Rattle.capability_engine.specs.SegmentWords.{segmentsFrom}
 use Rattle.capability_engine.specs.StreamCursor.{Table, Whole, Ready, remaining, Says}
-use Rattle.capability_engine.specs.CompartmentGrown.{Grown, Creates, Answers, Reads, ReadsPage}
+use Rattle.capability_engine.specs.CompartmentGrown.{Grown, Creates, Answers, AnswersBundle, Reads, ReadsPage}
 use Rattle.capability_engine.specs.CompartmentSteps.{noTracker}
 
 -- the pool's four slices and the tables
@@ -58,16 +59,25 @@ abbrev pub Asks : Call → Memory → Answer → Type 0
 Asks call m a =
     (calls : List Call) → GrownBy m calls → Reads calls call (m .words) (m .next) (m .links) (m .gens) (m .tables) a
 
--- Any list of calls, run from `new`, each on what the last one left: what they leave, and the calls, oldest first, each with
--- whether it was accepted.
-pub data Ran : Memory → List (Call × Bool) → Type 0 where
+-- What `bundle` of the crate bundles promises of a bundle for compartment k on m.
+abbrev pub Bundles : ℕ → List ℕ → Memory → Memory → Answer → Type 0
+Bundles k ns m m' a =
+    (calls : List Call) → GrownBy m calls
+    → AnswersBundle calls k ns (m .words) (m .next) (m .links) (m .gens) (m .tables)
+    (m' .words) (m' .next) (m' .links) (m' .gens) (record { tables = m' .tables; answer = a })
+
+-- Any list of calls and bundles, run from `new`, each on what the last one left: what they leave, and they themselves, oldest
+-- first, each with whether it was accepted.
+pub data Ran : Memory → List (RunStep × Bool) → Type 0 where
   new : {m : Memory} {links gens : List ℕ}
       → Creates (m .words) (m .next) links gens (m .links) (m .gens) (record { tables = m .tables; done = true })
       → Ran m []
-  changed : {m m' : Memory} {heard : List (Call × Bool)} {call : Call} {a : Answer}
-      → Ran m heard → Changes call m m' a → Ran m' (heard ++ ((call, accepted a) ∷ []))
-  asked : {m : Memory} {heard : List (Call × Bool)} {call : Call} {a : Answer}
-      → Ran m heard → Asks call m a → Ran m (heard ++ ((call, accepted a) ∷ []))
+  changed : {m m' : Memory} {heard : List (RunStep × Bool)} {call : Call} {a : Answer}
+      → Ran m heard → Changes call m m' a → Ran m' (heard ++ ((single call, accepted a) ∷ []))
+  asked : {m : Memory} {heard : List (RunStep × Bool)} {call : Call} {a : Answer}
+      → Ran m heard → Asks call m a → Ran m (heard ++ ((single call, accepted a) ∷ []))
+  bundled : {m m' : Memory} {heard : List (RunStep × Bool)} {k : ℕ} {ns : List ℕ} {a : Answer}
+      → Ran m heard → Bundles k ns m m' a → Ran m' (heard ++ ((bundle k ns, accepted a) ∷ []))
 
 -- What Tables::stream promises: a page of compartment k's stream from a mapping on, into the slice out, which is then out'.
 abbrev pub Page : Memory → ℕ → ℕ → List ℕ → List ℕ → Answer → Type 0
@@ -130,26 +140,30 @@ pub record StreamIs (m : Memory) (k : ℕ) (c : Compartment) : Type 0 where
   pub stepped : (copy : List ℕ) (n : ℕ) (d : RemapCursor) (found : List Mapping) → Stepped m k copy n d found
       → found ++ drop (length found) (streamOf c) ≡ streamOf c
 
--- the calls heard, without whether they were accepted
-abbrev pub callsOf : List (Call × Bool) → List Call
-callsOf heard = map (λ h. h .0) heard
-
--- The calls heard are all that the reckoning is fed: their arguments, and whether each was accepted.
-pub record WholeStream (m : Memory) (heard : List (Call × Bool)) : Type 0 where
-  pub reckoned : (k : ℕ) → k < 8 → StreamIs m k (reckoning k heard)
-  -- and what they leave is what every further call asks for
-  pub grown : GrownBy m (callsOf heard)
+-- What the reckoning is fed is what was heard: the arguments of each call and bundle, and whether it was accepted. Of a bundle
+-- it hears the calls, if that was accepted, and else nothing (document 02, order 9).
+pub record WholeStream (m : Memory) (heard : List (RunStep × Bool)) : Type 0 where
+  pub reckoned : (k : ℕ) → k < 8 → StreamIs m k (reckoning k (stepsFed heard))
+  -- and what these calls leave is what every further call asks for
+  pub grown : GrownBy m (map (λ h. h .0) (stepsFed heard))
 
 abbrev pub Statement : Type 0
-Statement = (m : Memory) (heard : List (Call × Bool)) → Ran m heard → WholeStream m heard
+Statement = (m : Memory) (heard : List (RunStep × Bool)) → Ran m heard → WholeStream m heard
+
+-- the calls and bundles heard, without whether they were accepted
+abbrev pub stepsOf : List (RunStep × Bool) → List RunStep
+stepsOf heard = map (λ h. h .0) heard
 
 -- Document 02, order 4: two runs that agree on one compartment's calls and allowance at each of them give it the same answers,
--- lists and streams, whatever the others do. The answers are those to its next call, so to each in turn; S alone is not `own`.
-pub record SameFor (k : ℕ) (m n : Memory) (xs ys : List Call) : Type 0 where
-  pub changes : (call : Call) (m' n' : Memory) (a b : Answer) → own k call ≡ true → allowance (after xs) k ≡ allowance (after ys) k
-      → Changes call m m' a → Changes call n n' b → a ≡ b
-  pub asks : (call : Call) (a b : Answer) → own k call ≡ true → allowance (after xs) k ≡ allowance (after ys) k
-      → Asks call m a → Asks call n b → a ≡ b
+-- lists and streams, whatever the others do. The answers are those to its next call or bundle, so to each in turn; S alone is not
+-- `own`.
+pub record SameFor (k : ℕ) (m n : Memory) (xs ys : List RunStep) : Type 0 where
+  pub changes : (call : Call) (m' n' : Memory) (a b : Answer) → own k (single call) ≡ true
+      → allowance (done xs) k ≡ allowance (done ys) k → Changes call m m' a → Changes call n n' b → a ≡ b
+  pub asks : (call : Call) (a b : Answer) → own k (single call) ≡ true
+      → allowance (done xs) k ≡ allowance (done ys) k → Asks call m a → Asks call n b → a ≡ b
+  pub bundles : (ns : List ℕ) (m' n' : Memory) (a b : Answer)
+      → allowance (done xs) k ≡ allowance (done ys) k → Bundles k ns m m' a → Bundles k ns n n' b → a ≡ b
   pub regions : storedAt (m .next) (m .words) (getD (m .tables .trackers) k noTracker .head)
       ≡ storedAt (n .next) (n .words) (getD (n .tables .trackers) k noTracker .head)
   pub segments : (other : Remapper)
@@ -159,5 +173,5 @@ pub record SameFor (k : ℕ) (m n : Memory) (xs ys : List Call) : Type 0 where
 
 abbrev pub Independent : Type 0
 Independent =
-    (k : ℕ) → k < 8 → (m n : Memory) (xs ys : List (Call × Bool)) → Ran m xs → Ran n ys
-    → seen k (callsOf xs) ≡ seen k (callsOf ys) → SameFor k m n (callsOf xs) (callsOf ys)
+    (k : ℕ) → k < 8 → (m n : Memory) (xs ys : List (RunStep × Bool)) → Ran m xs → Ran n ys
+    → seen k (stepsOf xs) ≡ seen k (stepsOf ys) → SameFor k m n (stepsOf xs) (stepsOf ys)

@@ -3,10 +3,7 @@ use Prim.Native.Nat.{ℕ}
 use mathlib.Core.Path.{_≡_}
 use mathlib.Core.Bool.{true, false}
 use mathlib.Core.List.{List, []}
-use lib.ListN.{length}
-use native.Mathlib.Omega.{arith}
 use Rattle.definitions.specs.declared.call.Call.{Call}
-use Rattle.capability_engine.proofs.ScriptGoing.{sized}
 use Rattle.capability_engine.specs.declared.compartments.Tables.{Tables}
 use Rattle.capability_engine.specs.declared.compartments.Outcome.{Outcome}
 use Rattle.capability_engine.specs.declared.compartments.Created.{Created}
@@ -27,11 +24,3 @@ module _ (words next links gens : List ℕ) (t : Tables) (g : IsGrown words next
       → ((calls : List Call) → Grown words next links gens t calls → Answers calls call words next links gens t words′ next′ links′ gens′ r)
       → IsGrown words′ next′ links′ gens′ (r .tables)
   answered call words′ next′ links′ gens′ r a = record { calls = _; grown = a (g .calls) (g .grown) .grown }
-
-  -- the slices keep their lengths
-  pub lengths : (words′ next′ links′ gens′ : List ℕ) (t′ : Tables) → IsGrown words′ next′ links′ gens′ t′
-      → (length words′ ≡ length words) × (length next′ ≡ length next) × (length links′ ≡ length links) × (length gens′ ≡ length gens)
-  lengths words′ next′ links′ gens′ t′ h =
-      let a = sized words next links gens t (g .calls) (g .grown) in
-      let b = sized words′ next′ links′ gens′ t′ (h .calls) (h .grown) in
-      (omega (arith, a, b), omega (arith, a, b), omega (arith, a, b), omega (arith, a, b))

@@ -1,4 +1,4 @@
-use Rattle.layouts.proofs.Tables.{lengths}
+use Rattle.capability_engine.proofs.ScriptGoing.{lengths}
 use borrow.Author.Needs.{needs}
 use Rattle.layouts.proofs.crowded.Statement.{statement}
 use Rattle.layouts.proofs.crowded.Tie as tie

@@ -1,5 +1,5 @@
 use Prim.Native.Nat.{_-_}
-use Rattle.layouts.proofs.Tables.{lengths}
+use Rattle.capability_engine.proofs.ScriptGoing.{lengths}
 use borrow.Author.Needs.{needs}
 use Rattle.capability_engine.specs.CompartmentGrown.{IsGrown}
 use Rattle.layouts.proofs.run.Statement.{statement}
