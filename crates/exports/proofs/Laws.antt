@@ -16,7 +16,7 @@ use Rattle.definitions.specs.Calls.{State, start, compartment, streamOf, stream
 use Rattle.definitions.specs.Script.{Line, call, malformed, lineOf, linesOf, heading, mappingLine, mappingLines, printed, left, outputFrom, outputOf, wholeLines}
 use Rattle.definitions.specs.declared.remapper.Mapping.{Mapping}
 use Rattle.definitions.specs.declared.answer.Refusal.{Refusal}
-use Rattle.definitions.specs.declared.answer.Refusal.the-variants.{NoCompartment, InvalidMemOps, InvalidRange, CountFull, OutOfMemory, InvalidRegion, EndedBefore, CountEmpty, EmptySegment, Overflow, AlreadyAliased, NoSlot, Repeated, OthersTouched, Malformed, PoolExceeded, StillInUse}
+use Rattle.definitions.specs.declared.answer.Refusal.the-variants.{NoCompartment, InvalidMemOps, InvalidRange, CountFull, OutOfMemory, InvalidRegion, EndedBefore, CountEmpty, EmptySegment, Overflow, AlreadyAliased, NoSlot, Repeated, OthersTouched, Malformed, PoolExceeded, StillInUse, BundleTooLong}
 use Rattle.definitions.specs.declared.answer.Answer.{Answer}
 use Rattle.definitions.specs.declared.answer.Answer.the-variants.{Accepted, Refused}
 use Rattle.definitions.specs.declared.call.Call.{Call}
@@ -55,6 +55,7 @@ refusal-from OthersTouched = omega arith
 refusal-from Malformed = omega arith
 refusal-from PoolExceeded = omega arith
 refusal-from StillInUse = omega arith
+refusal-from BundleTooLong = omega arith
 
 pub from-one : (r : Refusal) (n : ℕ) → n ≡ refusalNumber r → 1 ≤ n
 from-one r n e = omega (arith, refusal-from r, e)
@@ -69,31 +70,31 @@ pub fresh : (words next links gens links' gens' : List ℕ) (r : Created) → en
     → engine.Sized words next links gens → engine.Grown words next links' gens' (r .tables) []
 fresh words next links gens links' gens' r c s = c .made (c .sized s)
 
-pub leaves : (script words next links gens : List ℕ) (t : Tables) → Replays [] script words next links gens t → Leaves script words next links gens t
+pub leaves : (script words next links gens : List ℕ) (t : Tables) → Replays [] script words next links gens t → Leaves (leftBy script) words next links gens t
 unfolding leftBy after afterFrom
 leaves script words next links gens t q = record { calls = q .later; grown = q .grown; left = q .left }
 
-module _ (script : List ℕ) (calls : List Call) (e : after calls ≡ leftBy script) (a : Answer) (r : ℕ) (c : r ≡ coded a) where
-  pub asked : (q : Call) → a ≡ answer (after calls) q → r ≡ coded (answer (leftBy script) q)
-  asked q f = c ∙ ap coded (f ∙ ap (λ (s : State). answer s q) e)
+module _ (s : State) (calls : List Call) (e : after calls ≡ s) (a : Answer) (r : ℕ) (c : r ≡ coded a) where
+  pub asked : (q : Call) → a ≡ answer (after calls) q → r ≡ coded (answer s q)
+  asked q f = c ∙ ap coded (f ∙ ap (λ (t : State). answer t q) e)
 
   module _ (k from : ℕ) (out out' : List ℕ) where
     pub list-page : (width : ℕ) (groups : Compartment → List (List ℕ)) → engine.ReadsList width groups calls k from out out' a
-        → ReadsPage width groups script k from out out' r
+        → ReadsPage width groups s k from out out' r
     list-page width groups q = record {
-      answered = c ∙ ap coded (q .answered ∙ ap (λ (s : State). ask ((k <? 8, NoCompartment) ∷ []) (Accepted (length (page width (groups (compartment s k)) from (length out))))) e);
-      slice = q .slice ∙ ap (λ (s : State). engine.pageLeft width (groups (compartment s k)) k from out) e;
+      answered = c ∙ ap coded (q .answered ∙ ap (λ (t : State). ask ((k <? 8, NoCompartment) ∷ []) (Accepted (length (page width (groups (compartment t k)) from (length out))))) e);
+      slice = q .slice ∙ ap (λ (t : State). engine.pageLeft width (groups (compartment t k)) k from out) e;
     }
 
     pub stream-read : (words next links gens : List ℕ) (t : Tables)
         → engine.ReadsPage 5 streamGroups from calls (Remap k from (length out)) words next links gens t out out' a
-        → ReadsPage 5 streamGroups script k from out out' r
+        → ReadsPage 5 streamGroups s k from out out' r
     unfolding answer answerIn compartmentOf
     stream-read words next links gens t q = list-page 5 streamGroups (record { answered = q .reads .answered; slice = q .slice })
 
     pub permissions-read : (words next links gens : List ℕ) (t : Tables)
         → engine.ReadsPage 3 permissionGroups from calls (Permissions k from (length out)) words next links gens t out out' a
-        → ReadsPage 3 permissionGroups script k from out out' r
+        → ReadsPage 3 permissionGroups s k from out out' r
     unfolding answer answerIn compartmentOf
     permissions-read words next links gens t q = list-page 3 permissionGroups (record { answered = q .reads .answered; slice = q .slice })
 

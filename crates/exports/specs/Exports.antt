@@ -31,13 +31,13 @@ pub record Prints (script out out' : List ℕ) (r : ℕ) : Type 0 where
   pub slice : out' ≡ sets out 0 (each (λ l. l) (wholeLines (length out) (outputOf script)))
   pub many : r ≡ length (wholeLines (length out) (outputOf script))
 
--- a page of a compartment's groups after a script; past the eight compartments the slice is as it was
-pub record ReadsPage (width : ℕ) (groups : Compartment → List (List ℕ)) (script : List ℕ) (k from : ℕ) (out out' : List ℕ) (r : ℕ) : Type 0 where
-  pub answered : r ≡ coded (ask ((k <? 8, NoCompartment) ∷ []) (Accepted (length (page width (groups (compartment (leftBy script) k)) from (length out)))))
-  pub slice : out' ≡ pageLeft width (groups (compartment (leftBy script) k)) k from out
+-- a page of a compartment's groups in a state; past the eight compartments the slice is as it was
+pub record ReadsPage (width : ℕ) (groups : Compartment → List (List ℕ)) (s : State) (k from : ℕ) (out out' : List ℕ) (r : ℕ) : Type 0 where
+  pub answered : r ≡ coded (ask ((k <? 8, NoCompartment) ∷ []) (Accepted (length (page width (groups (compartment s k)) from (length out)))))
+  pub slice : out' ≡ pageLeft width (groups (compartment s k)) k from out
 
--- tables that calls grew, and that hold what a script leaves
-pub record Leaves (script words next links gens : List ℕ) (t : Tables) : Type 0 where
+-- tables that calls grew, and that hold a state
+pub record Leaves (s : State) (words next links gens : List ℕ) (t : Tables) : Type 0 where
   pub calls : List Call
   pub grown : Grown words next links gens t calls
-  pub left : after calls ≡ leftBy script
+  pub left : after calls ≡ s

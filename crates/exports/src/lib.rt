@@ -81,7 +81,7 @@ fn tables_after(
     gens: &mut [u64],
 ) -> Tables
     requires { ⌜ Sized (now words) (now next) (now links) (now gens) ⌝ }
-    ensures { λ r. ⌜ Leaves (now (script .entry)) (now (words .exit)) (now (next .exit)) (now (links .exit)) (now (gens .exit)) r ⌝ }
+    ensures { λ r. ⌜ Leaves (leftBy (now (script .entry))) (now (words .exit)) (now (next .exit)) (now (links .exit)) (now (gens .exit)) r ⌝ }
 {
     let made = Tables::new(words, next, links, gens);
     let empty = made.tables;
@@ -91,7 +91,7 @@ fn tables_after(
 // A page of a compartment's stream after a script: hpa, gpa, size, repeat and rights of each mapping.
 #[no_mangle]
 pub extern "C" fn stream_page(script: &[u8], compartment: u64, from: usize, out: &mut [u64]) -> u64
-    ensures { λ r. ⌜ ReadsPage 5 streamGroups (now (script .entry)) compartment from (now (out .entry)) (now (out .exit)) r ⌝ }
+    ensures { λ r. ⌜ ReadsPage 5 streamGroups (leftBy (now (script .entry))) compartment from (now (out .entry)) (now (out .exit)) r ⌝ }
 {
     let mut words = [0u64; POOL_LEN];
     let mut next = [0usize; 1025];
@@ -110,7 +110,7 @@ pub extern "C" fn permissions_page(
     from: usize,
     out: &mut [u64],
 ) -> u64
-    ensures { λ r. ⌜ ReadsPage 3 permissionGroups (now (script .entry)) compartment from (now (out .entry)) (now (out .exit)) r ⌝ }
+    ensures { λ r. ⌜ ReadsPage 3 permissionGroups (leftBy (now (script .entry))) compartment from (now (out .entry)) (now (out .exit)) r ⌝ }
 {
     let mut words = [0u64; POOL_LEN];
     let mut next = [0usize; 1025];
@@ -124,7 +124,7 @@ pub extern "C" fn permissions_page(
 // A page of its stored regions: start, end, holders and a count for each right.
 #[no_mangle]
 pub extern "C" fn regions_page(script: &[u8], compartment: u64, from: usize, out: &mut [u64]) -> u64
-    ensures { λ r. ⌜ ReadsPage recordLen regionGroups (now (script .entry)) compartment from (now (out .entry)) (now (out .exit)) r ⌝ }
+    ensures { λ r. ⌜ ReadsPage recordLen regionGroups (leftBy (now (script .entry))) compartment from (now (out .entry)) (now (out .exit)) r ⌝ }
 {
     let mut words = [0u64; POOL_LEN];
     let mut next = [0usize; 1025];
@@ -143,7 +143,7 @@ pub extern "C" fn segments_page(
     from: usize,
     out: &mut [u64],
 ) -> u64
-    ensures { λ r. ⌜ ReadsPage 4 segmentGroups (now (script .entry)) compartment from (now (out .entry)) (now (out .exit)) r ⌝ }
+    ensures { λ r. ⌜ ReadsPage 4 segmentGroups (leftBy (now (script .entry))) compartment from (now (out .entry)) (now (out .exit)) r ⌝ }
 {
     let mut words = [0u64; POOL_LEN];
     let mut next = [0usize; 1025];
