@@ -2,6 +2,7 @@
 //! device right; document 02, orders 8 and 10, count all alike. So the port is given a script with uncacheable and device exchanged
 //! for two of the four, and what it gives has them exchanged back: the original, which is given the script as it is, judges how the
 //! two are counted by how it counts those rights.
+use crate::bundle::Bundle;
 use crate::counts::{place, ALL, DEVICE, UNCACHEABLE};
 use crate::line::{Call, Kind};
 use crate::port::List;
@@ -41,6 +42,13 @@ impl Exchange {
         let Some(mut call) = call.filter(|_| self.0.is_some()) else { return line.to_vec() };
         call.numbers[2] = self.rights(call.numbers[2]);
         call.line()
+    }
+
+    /// A bundle for the port.
+    pub fn bundle(self, bundle: &Bundle) -> Bundle {
+        let mut bundle = bundle.clone();
+        bundle.rights_mut().for_each(|rights| *rights = self.rights(*rights));
+        bundle
     }
 
     /// A list that the port gives, as the original would have it, or the other way.

@@ -1,5 +1,7 @@
 //! The original as judge of the port: scripts go through both, and every answer, list and stream is compared.
 pub mod allowances;
+pub mod bundle;
+pub mod bundles;
 pub mod compare;
 pub mod counts;
 pub mod cuts;

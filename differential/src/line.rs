@@ -151,6 +151,12 @@ pub fn put_answer(out: &mut Vec<u8>, answer: u64, value: u64) {
     out.push(b'\n');
 }
 
+/// The answer and the value of an answer line, if it is one, to the column.
+pub fn take_answer(line: &[u8]) -> Option<(u64, u64)> {
+    let (answer, value) = (take(line.get(..3)?)?, take(line.get(3..24)?)?);
+    (line[24..] == *b"\n").then_some((answer, value))
+}
+
 /// The lines of a stream.
 pub fn put_mappings(out: &mut Vec<u8>, stream: &[u64]) {
     for mapping in stream.chunks_exact(5) {

@@ -3,7 +3,7 @@ use crate::compare::{check, Asked, Class, Depth, Script, Tally};
 use crate::counts::RECORD;
 use crate::judge::Tables;
 use crate::line::{self, Call};
-use crate::port::{self, List};
+use crate::port::{self, After, List};
 use crate::shrink::smallest;
 use std::collections::BTreeMap;
 use std::fmt::Write;
@@ -106,7 +106,7 @@ fn row(number: usize, class: &Class, lines: &[Vec<u8>]) -> String {
         tables.say(&call);
         if class.altered || class.named {
             let theirs = [tables.regions(k), tables.segments(k)];
-            let ours = [List::Regions, List::Segments].map(|list| port::whole(list, &text, k as u64));
+            let ours = [List::Regions, List::Segments].map(|list| port::whole(list, After::script(&text, k as u64)));
             for (text, all, other) in [(&mut original, &theirs, &ours), (&mut port, &ours, &theirs)] {
                 let (records, segments) = (groups(&all[0], &other[0], RECORD), groups(&all[1], &other[1], 4));
                 let _ = write!(text, "; then records {records}, segments {segments}");

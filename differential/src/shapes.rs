@@ -1,4 +1,5 @@
 //! The shapes of scripts: each draws its numbers so that calls meet each other, and every answer is reached.
+use crate::bundle::Bundle;
 use crate::compare::Script;
 use crate::line::{Call, Kind};
 use crate::random::Random;
@@ -36,7 +37,7 @@ pub const PREAMBLES: [Preamble; 12] = [
     Preamble::Stairs(64),
 ];
 
-fn allow(k: u64, allowance: u64) -> Call {
+pub fn allow(k: u64, allowance: u64) -> Call {
     Call::new(Kind::Allow, k, &[allowance])
 }
 
@@ -74,15 +75,15 @@ impl Preamble {
 }
 
 /// Where a shape draws its numbers from.
-struct Shape {
+pub struct Shape {
     /// Of some 12 lines, how many are A, D, C, M, U, G, P and S.
     letters: [u64; 8],
     host: fn(&mut Random) -> u64,
     guest: fn(&mut Random) -> u64,
     size: fn(&mut Random) -> u64,
     repeat: fn(&mut Random) -> u64,
-    rights: fn(&mut Random) -> u64,
-    compartment: fn(&mut Random) -> u64,
+    pub rights: fn(&mut Random) -> u64,
+    pub compartment: fn(&mut Random) -> u64,
     allowance: fn(&mut Random) -> u64,
     lines: (u64, u64),
     preambles: &'static [Preamble],
@@ -238,7 +239,7 @@ const POOL: &[Preamble] = &[PREAMBLES[0], PREAMBLES[1], PREAMBLES[2], PREAMBLES[
 const SLOTS: &[Preamble] = &[PREAMBLES[6], PREAMBLES[7], PREAMBLES[8], PREAMBLES[9], PREAMBLES[10], PREAMBLES[11]];
 
 #[rustfmt::skip]
-const SHAPES: [(&str, Shape); 13] = [
+static SHAPES: [(&str, Shape); 13] = [
     ("crowded records", Shape { letters: [5, 4, 1, 0, 0, 0, 1, 0], host: few, guest: few, size: short, repeat: once, rights: every, compartment: first, allowance: tight, lines: (3, 24), preambles: NO }),
     ("crowded records and segments", Shape { letters: [3, 2, 1, 3, 1, 1, 1, 0], host: few, guest: few, size: short, repeat: once, rights: plain, compartment: three, allowance: tight, lines: (3, 24), preambles: NO }),
     ("removes over gaps", Shape { letters: [4, 7, 0, 0, 0, 0, 1, 0], host: some, guest: few, size: short, repeat: once, rights: plain, compartment: first, allowance: tight, lines: (4, 20), preambles: NO }),
@@ -267,7 +268,7 @@ impl Shape {
     }
 
     /// Two numbers in order, mostly.
-    fn range(&self, r: &mut Random) -> (u64, u64) {
+    pub fn range(&self, r: &mut Random) -> (u64, u64) {
         let a = (self.host)(r);
         let b = if r.once_in(2) { (self.host)(r) } else { a.saturating_add(self.size_of(r)) };
         if a <= b || r.once_in(20) {
@@ -329,10 +330,8 @@ fn damaged(line: &[u8], r: &mut Random) -> Vec<u8> {
     line
 }
 
-/// Script number i of a run. Which shape it takes, and all its numbers, follow from the seed and from i.
-pub fn script(seed: u64, i: u64) -> (&'static str, Preamble, Script) {
-    let mut r = Random(seed ^ i.wrapping_mul(0xD6E8_FEB8_6659_FD93));
-    r.next();
+/// The shape of script number i, with its name.
+pub fn shape(i: u64) -> &'static (&'static str, Shape) {
     // long preambles cost as much as hundreds of other scripts
     let at = if i % 10 == 4 {
         12
@@ -345,7 +344,14 @@ pub fn script(seed: u64, i: u64) -> (&'static str, Preamble, Script) {
     } else {
         i % 9
     };
-    let (name, shape) = &SHAPES[at as usize];
+    &SHAPES[at as usize]
+}
+
+/// Script number i of a run. Which shape it takes, and all its numbers, follow from the seed and from i.
+pub fn script(seed: u64, i: u64) -> (&'static str, Preamble, Script) {
+    let mut r = Random(seed ^ i.wrapping_mul(0xD6E8_FEB8_6659_FD93));
+    r.next();
+    let (name, shape) = shape(i);
     let preamble = r.one_of(shape.preambles);
     let mut lines: Vec<Vec<u8>> = preamble.calls().iter().map(Call::line).collect();
     let known = lines.len();
@@ -358,19 +364,22 @@ pub fn script(seed: u64, i: u64) -> (&'static str, Preamble, Script) {
     (name, preamble, Script { lines, known, open, ..Script::default() })
 }
 
-fn script_of(calls: &[Call]) -> Script {
+pub fn script_of(calls: &[Call]) -> Script {
     Script { lines: calls.iter().map(Call::line).collect(), ..Script::default() }
 }
 
-/// Counts at 65,535: so many adds of one address, and one more of it; then calls about it.
+/// Counts at 65,535: so many adds of one address, and one more of it; then calls about it, and bundles that make room for one more.
 fn full_counts() -> Script {
     let add = |start, end, rights| Call::new(Kind::Add, 0, &[start, end, rights]);
     let mut calls = vec![add(5, 6, 3); 65535];
     let known = calls.len();
     calls.extend([add(5, 6, 3), add(5, 6, 0), add(5, 6, 32), add(4, 6, 1), add(6, 7, 1)]);
-    calls.push(Call::new(Kind::Remove, 0, &[5, 6, 1]));
-    calls.extend([add(5, 6, 1), add(5, 6, 1), Call::new(Kind::Print, 0, &[])]);
-    Script { known, ..script_of(&calls) }
+    let remove = Call::new(Kind::Remove, 0, &[5, 6, 1]);
+    calls.extend([remove, add(5, 6, 1), add(5, 6, 1), Call::new(Kind::Print, 0, &[])]);
+    let mut script = Script { known, ..script_of(&calls) };
+    let bundles = [vec![remove, add(5, 6, 1), add(5, 6, 1)], vec![remove, add(5, 6, 1)]];
+    script.lines.extend(bundles.map(|calls| Bundle::of(0, &calls).entry()));
+    script
 }
 
 /// A right's count at 65,535 with one holder: behind each add but the first a remove that names nothing; then calls about it.

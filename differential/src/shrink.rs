@@ -1,4 +1,5 @@
 //! The smallest script for which something holds: lines are dropped, then numbers lowered, as long as it goes on holding.
+use crate::bundle::Bundle;
 use crate::line::Call;
 
 fn without_lines(lines: &mut Vec<Vec<u8>>, holds: &dyn Fn(&[Vec<u8>]) -> bool) {
@@ -50,6 +51,20 @@ fn lower(lines: &mut [Vec<u8>], at: usize, holds: &dyn Fn(&[Vec<u8>]) -> bool) -
         }
     }
     lowered
+}
+
+/// Groups go from the bundle that a line may be, the last ones first.
+fn without_groups(lines: &mut [Vec<u8>], at: usize, holds: &dyn Fn(&[Vec<u8>]) -> bool) {
+    let Some(mut bundle) = Bundle::parse(&lines[at]) else { return };
+    for group in (0..bundle.many()).rev() {
+        let fewer = bundle.without(group);
+        let before = std::mem::replace(&mut lines[at], fewer.entry());
+        if holds(lines) {
+            bundle = fewer;
+        } else {
+            lines[at] = before;
+        }
+    }
 }
 
 /// The calls of all lines, if every line is one.
@@ -105,6 +120,7 @@ pub fn smallest(lines: &[Vec<u8>], holds: &dyn Fn(&[Vec<u8>]) -> bool) -> Vec<Ve
         without_lines(&mut lines, holds);
         close_gaps(&mut lines, holds);
         for at in 0..lines.len() {
+            without_groups(&mut lines, at, holds);
             // a number that can only go down by one at a time is left where it is after some steps
             for _ in 0..50 {
                 if !lower(&mut lines, at, holds) {

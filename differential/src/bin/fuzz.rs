@@ -1,7 +1,9 @@
 //! fuzz N: byte strings and damaged scripts through run_script and through the program key. Neither may crash or hang, both
-//! print the same, and there are as many answer lines as lines.
-use differential::line;
-use differential::port;
+//! print the same, and there are as many answer lines as lines. Then a bundle of any numbers behind each: it must do what its calls do as
+//! lines, or nothing.
+use differential::bundle::{Bundle, MOST};
+use differential::line::{self, Call, Kind};
+use differential::port::{self, After, List};
 use differential::random::Random;
 use differential::shapes;
 use std::env;
@@ -76,6 +78,70 @@ fn try_one(program: &str, input: &[u8]) -> Result<(), String> {
     Ok(())
 }
 
+/// A bundle: calls on the addresses that scripts have, now and then with any number in one's place, or with some missing.
+fn bundle(r: &mut Random) -> Bundle {
+    let call = |r: &mut Random| {
+        let (start, kind) = (r.below(20), if r.once_in(9) { Kind::Remove } else { Kind::Add });
+        Call::new(kind, 0, &[start, start + r.below(7), r.one_of(&[0, 1, 1, 3, 19, 32])])
+    };
+    let many = r.one_of(&[1, 2, 3, 5, 8, 13, 32, 33]);
+    let mut bundle = Bundle::of(r.below(9), &(0..many).map(|_| call(r)).collect::<Vec<_>>());
+    if r.once_in(3) {
+        let at = r.below(bundle.numbers.len() as u64) as usize;
+        bundle.numbers[at] = if r.once_in(2) { r.next() } else { r.below(70) };
+    }
+    if r.once_in(6) {
+        bundle.numbers.truncate(r.below(4 * many + 1) as usize);
+    }
+    bundle
+}
+
+/// What the port must answer to a bundle behind an input, and the script that it stands for there, by its calls as lines.
+fn by_lines(input: &[u8], bundle: &Bundle) -> Result<(u64, Vec<u8>), String> {
+    let refused = |number| Ok((port::refused(number), input.to_vec()));
+    if bundle.compartment >= 8 {
+        return refused(1);
+    }
+    if bundle.many() > MOST {
+        return refused(24);
+    }
+    let lines: Vec<Vec<u8>> = bundle.groups().map_while(|group| bundle.call(group)).map(|call| call.line()).collect();
+    let mut grown = input.to_vec();
+    if input.last().is_some_and(|last| *last != b'\n') {
+        grown.push(b'\n');
+    }
+    grown.extend(line::text(&lines));
+    let output = port::run(&grown);
+    let mut change = 0;
+    for answer in output[output.len() - 25 * lines.len()..].chunks(25) {
+        let (answer, value) = line::take_answer(answer).ok_or("an add or a remove has no answer line")?;
+        if answer != 0 {
+            return refused(answer);
+        }
+        change |= value;
+    }
+    if lines.len() < bundle.many() {
+        return refused(17);
+    }
+    Ok((change, grown))
+}
+
+/// A bundle behind an input: whether it is accepted.
+fn try_bundle(input: &[u8], bundle: &Bundle) -> Result<bool, String> {
+    let (meant, left) = by_lines(input, bundle)?;
+    let answer = port::bundle(input, bundle);
+    if answer != meant {
+        return Err(format!("{bundle:?} answers {answer}, its calls as lines {meant}"));
+    }
+    for list in [List::Regions, List::Stream] {
+        let behind = port::whole(list, After::bundle(input, bundle));
+        if behind != port::whole(list, After::script(&left, bundle.compartment)) {
+            return Err(format!("{bundle:?} does not leave the {list:?} that its calls as lines leave"));
+        }
+    }
+    Ok(answer <= 1)
+}
+
 fn main() -> ExitCode {
     let words: Vec<String> = env::args().skip(1).collect();
     let [program, many] = &words[..] else {
@@ -86,18 +152,26 @@ fn main() -> ExitCode {
         eprintln!("usage: differential/fuzz N");
         return ExitCode::from(2);
     };
-    let mut total = 0;
+    let (mut total, mut accepted) = (0, 0);
     for i in 0..many {
-        let input = bytes(&mut Random(i.wrapping_mul(0x2545_F491_4F6C_DD1D) + 1), i);
+        let mut r = Random(i.wrapping_mul(0x2545_F491_4F6C_DD1D) + 1);
+        let input = bytes(&mut r, i);
         total += input.len();
-        if let Err(why) = try_one(program, &input) {
-            println!("input {i}, {} bytes: {why}\n{}", input.len(), input.escape_ascii());
-            return ExitCode::FAILURE;
+        match try_one(program, &input).and_then(|()| try_bundle(&input, &bundle(&mut r))) {
+            Ok(is_accepted) => accepted += u64::from(is_accepted),
+            Err(why) => {
+                println!("input {i}, {} bytes: {why}\n{}", input.len(), input.escape_ascii());
+                return ExitCode::FAILURE;
+            }
         }
         if i % 5000 == 4999 {
             eprintln!("fuzz: {} of {many}", i + 1);
         }
     }
     println!("{many} inputs, {total} bytes: run_script and key print the same, an answer for every line");
+    println!(
+        "a bundle behind each, {accepted} accepted and {} refused: what its calls do as lines, or nothing",
+        many - accepted
+    );
     ExitCode::SUCCESS
 }
