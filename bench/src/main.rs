@@ -1,7 +1,8 @@
 //! bench FILE: the port against the original on the same scripts, in one run, and the table as Markdown in FILE.
+use differential::bundle::Bundle;
 use differential::judge::Tables;
 use differential::line::{self, Call, Kind};
-use differential::port::{self, List};
+use differential::port::{self, After, List};
 use std::env;
 use std::fmt::Write;
 use std::fs;
@@ -53,6 +54,18 @@ enum Work {
     Text(Vec<Vec<u8>>),
     /// The stream after a script, into numbers.
     Page(Vec<u8>),
+    /// Adds and removes for compartment 0 on fresh tables, so often, without text: a bundle here, single calls there.
+    Calls { bundle: Bundle, calls: Vec<Call>, times: u64 },
+}
+
+impl Work {
+    /// How many runs the least time is taken of. Bundles are short beside the tables that are taken off: they get more, shorter runs.
+    fn rounds(&self) -> usize {
+        match self {
+            Work::Text(_) | Work::Page(_) => 9,
+            Work::Calls { .. } => 300,
+        }
+    }
 }
 
 struct Case {
@@ -78,9 +91,23 @@ fn run_port(work: &Work, buffers: &mut Buffers) {
             }
         }
         Work::Page(script) => {
-            black_box(port::read(List::Stream, script, 0, 0, &mut buffers.numbers));
+            black_box(port::read(List::Stream, After::script(script, 0), 0, &mut buffers.numbers));
+        }
+        Work::Calls { bundle, times, .. } => {
+            for _ in 0..*times {
+                black_box(port::bundle(b"", black_box(bundle)));
+            }
         }
     }
+}
+
+/// The original's single calls on fresh tables: the tables, and what each call answers.
+fn singly(calls: &[Call], mut answer: impl FnMut(Result<u64, &'static str>)) -> Tables {
+    let mut tables = Tables::default();
+    for call in calls {
+        answer(tables.change(call));
+    }
+    tables
 }
 
 fn run_original(work: &Work, buffers: &mut Buffers) {
@@ -100,6 +127,13 @@ fn run_original(work: &Work, buffers: &mut Buffers) {
                 at += 5;
             });
             black_box(at);
+        }
+        Work::Calls { calls, times, .. } => {
+            for _ in 0..*times {
+                black_box(singly(black_box(calls), |answer| {
+                    let _ = black_box(answer);
+                }));
+            }
         }
     }
 }
@@ -127,9 +161,28 @@ fn measure(work: &Work, before: &Work, rounds: usize, buffers: &mut Buffers) -> 
     (least[0] - least[2], least[1] - least[3])
 }
 
-/// Both sides print the same, or nothing is measured.
+/// A bundle does what the single calls do there. Where one is refused, it is the last, with 6, and the bundle leaves no record.
+fn agree_on_calls(bundle: &Bundle, calls: &[Call]) -> bool {
+    let mut answers = Vec::new();
+    let tables = singly(calls, |answer| answers.push(answer));
+    let accepted = answers.iter().all(Result::is_ok);
+    let records = port::whole(List::Regions, After::bundle(b"", bundle));
+    let ours = port::bundle(b"", bundle);
+    if accepted {
+        ours == u64::from(answers.contains(&Ok(1))) && records == tables.regions(0)
+    } else {
+        let refused = answers.iter().position(Result::is_err) == Some(calls.len() - 1);
+        refused && answers.last() == Some(&Err("InvalidRegion")) && ours == port::refused(6) && records.is_empty()
+    }
+}
+
+/// Both sides do the same, or nothing is measured.
 fn agree(work: &Work, buffers: &mut Buffers) -> bool {
-    let Work::Text(scripts) = work else { return true };
+    let scripts = match work {
+        Work::Text(scripts) => scripts,
+        Work::Page(_) => return true,
+        Work::Calls { bundle, calls, .. } => return agree_on_calls(bundle, calls),
+    };
     scripts.iter().take(3).all(|script| {
         buffers.port.fill(0);
         port::run_into(script, &mut buffers.port);
@@ -155,10 +208,10 @@ fn main() -> ExitCode {
     let mut table = String::from("| what | per | port, ns | original, ns | port / original |\n|---|---|---|---|---|\n");
     for case in scripts::cases() {
         if !agree(&case.work, &mut buffers) {
-            eprintln!("bench: {}: the two sides print something else", case.name);
+            eprintln!("bench: {}: the two sides do not agree", case.name);
             return ExitCode::FAILURE;
         }
-        let (port, original) = measure(&case.work, &case.before, 9, &mut buffers);
+        let (port, original) = measure(&case.work, &case.before, case.work.rounds(), &mut buffers);
         let per = |time: f64| time * 1e9 / case.calls as f64;
         let row = format!(
             "| {} | {} | {:.0} | {:.0} | {:.2} |",

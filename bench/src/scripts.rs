@@ -1,7 +1,11 @@
-//! The scripts that are measured. Every call of them is accepted, on both sides.
+//! The scripts that are measured. Every call of them is accepted, on both sides, but for the last of one bundle.
 use crate::{Case, Work};
+use differential::bundle::Bundle;
 use differential::line::{self, Call, Kind};
 use differential::shapes::whole_pool;
+
+/// How often a bundle is made in one run: it takes a few microseconds.
+const TIMES: u64 = 100;
 
 fn text(calls: &[Call]) -> Vec<u8> {
     line::text(&calls.iter().map(Call::line).collect::<Vec<_>>())
@@ -131,6 +135,44 @@ pub fn on_segments(many: u64, pairs: u64) -> (Work, Work, u64) {
     (one(&whole), one(&before), 2 * pairs)
 }
 
+/// Adds of ranges that do not touch, then removes of as many of them, in the same order.
+fn adds_and_removes(adds: u64, removes: u64) -> Vec<Call> {
+    let of = |kind| move |i| call(kind, 0, &[4096 * (i + 1), 4096 * (i + 1) + 2048, 3]);
+    (0..adds).map(of(Kind::Add)).chain((0..removes).map(of(Kind::Remove))).collect()
+}
+
+/// A bundle beside its single calls.
+fn bundled(calls: Vec<Call>) -> Work {
+    Work::Calls { bundle: Bundle::of(0, &calls), calls, times: TIMES }
+}
+
+/// So many adds and removes, by the call: the tables that they are made on are taken off.
+fn all_of(adds: u64, removes: u64) -> (Work, Work, u64) {
+    let calls = adds_and_removes(adds, removes);
+    let many = calls.len() as u64;
+    (bundled(calls), bundled(Vec::new()), TIMES * many)
+}
+
+/// 32 calls of which the last is refused: nothing is held at its start or below.
+fn refused_last() -> (Work, Work, u64) {
+    let mut calls = adds_and_removes(16, 15);
+    calls.push(call(Kind::Remove, 0, &[0, 1, 3]));
+    (bundled(calls), bundled(Vec::new()), TIMES * 32)
+}
+
+/// The bundles. What a second call costs more than the first is what the copy of the pool costs, and that call.
+fn bundles() -> Vec<Case> {
+    let [one, two] = [1, 2].map(|adds| bundled(adds_and_removes(adds, 0)));
+    vec![
+        case("a bundle of 4 adds and 4 removes", all_of(4, 4), "call"),
+        case("a bundle of 16 adds and 16 removes", all_of(16, 16), "call"),
+        case("a bundle of 8 adds", all_of(8, 0), "call"),
+        case("a bundle of 32 adds", all_of(32, 0), "call"),
+        case("a bundle of 32 that is refused at its last", refused_last(), "call"),
+        case("a bundle of two adds, less one of one: the pool's copy", (two, one, TIMES), "bundle"),
+    ]
+}
+
 fn case(name: &'static str, (work, before, calls): (Work, Work, u64), unit: &'static str) -> Case {
     Case { name, work, before, calls, unit }
 }
@@ -142,7 +184,7 @@ pub fn cases() -> Vec<Case> {
     // 32 segments of 400 records each, of which the last ones lie past the end, and the records before each of them
     let mappings = |many: u64| (0..32).map(|i| many - i).sum::<u64>();
     let stream = long_stream(400);
-    vec![
+    let mut cases = vec![
         case("a day's load: 40 texts of 1,000 sessions", (whole_day, nothing(), day_calls), "line"),
         case("a day's load: 40,000 texts of one session", (sessions, nothing(), session_calls), "line"),
         case("adds and removes on 10 records", on_regions(10, 2000), "line"),
@@ -156,5 +198,7 @@ pub fn cases() -> Vec<Case> {
             (Work::Page(text(&stream)), Work::Page(text(&records(400))), mappings(400)),
             "mapping",
         ),
-    ]
+    ];
+    cases.extend(bundles());
+    cases
 }
