@@ -3,7 +3,7 @@ use Prim.Native.Nat.{ℕ, _+_, _/_, _<_, _≤_}
 use mathlib.Core.Path.{_≡_, refl, sym, ap, ap₂, _∙_}
 use mathlib.Core.Bool.{Bool, true, false, true≢false, _||_}
 use mathlib.Core.List.{List, [], _∷_, _++_, map, append-nil, append-assoc}
-use lib.ListN.{length}
+use lib.ListN.{length, getD, drop}
 use native.Mathlib.Omega.{arith}
 use borrow.Author.Tests.{lt-ltb, le-ltb, le-leb, lt-leb, ltb-true, leb-true, ne-eqb}
 use Rattle.definitions.specs.Tests.{_<?_, _≤?_, _=?_, if_then_else_, bit}
@@ -18,7 +18,7 @@ use Rattle.definitions.specs.declared.answer.Answer.the-variants.{Accept
 use Rattle.definitions.specs.declared.call.Call.{Call}
 use Rattle.definitions.proofs.Bools.{or-false, or-assoc, one-bit}
 use Rattle.definitions.proofs.Passed.{passed}
-use Rattle.definitions.proofs.Reckoned.{afterFrom-append, fedFrom-append, after-append, reckoned}
+use Rattle.definitions.proofs.Reckoned.{length-after, afterFrom-append, fedFrom-append, after-append, reckoned}
 use Rattle.definitions.proofs.Demand.{Demand3, demand3}
 
 -- each call is accepted, after the ones before it
@@ -236,6 +236,19 @@ reckoned-with-bundles steps k = rw (run-leaves-its-calls steps, run-feeds-its-ca
 pub demand3-with-bundles : (steps : List Step) (k : ℕ) → Demand3 (compartment (done steps) k) (reckoning k (stepsFed (judged steps)))
 demand3-with-bundles steps k = rw (run-leaves-its-calls steps, run-feeds-its-calls steps) (demand3 (callsOf steps) k)
 
+pub done-length : (steps : List Step) → length (done steps .compartments) ≡ 8
+done-length steps = ap (λ s. length (s .compartments)) (run-leaves-its-calls steps) ∙ length-after (callsOf steps)
+
+-- more steps
+doneFrom-append : (xs ys : List Step) (s : State) → doneFrom s (xs ++ ys) ≡ doneFrom (doneFrom s xs) ys
+unfolding doneFrom
+doneFrom-append [] ys s = refl
+doneFrom-append (x ∷ xs) ys s = doneFrom-append xs ys (stepLeaves s x)
+
+pub done-append : (xs ys : List Step) → done (xs ++ ys) ≡ doneFrom (done xs) ys
+unfolding done
+done-append xs ys = doneFrom-append xs ys start
+
 -- one step more
 module _ (x : Step) where
   judgedFrom-snoc : (xs : List Step) (s : State)
@@ -259,6 +272,20 @@ module _ (x : Step) where
   unfolding callsOf done
   callsOf-snoc steps = callsFrom-snoc steps start
 
+-- each step of a judged run stands with whether it was accepted after the ones before it
+module _ (x : Step) (ok : Bool) (later : List (Step × Bool)) where
+  judgedFrom-at : (before : List (Step × Bool)) (s : State)
+      → before ++ ((x, ok) ∷ later) ≡ judgedFrom s (map (λ h. h .0) (before ++ ((x, ok) ∷ later)))
+      → ok ≡ accepted (stepAnswer (doneFrom s (map (λ h. h .0) before)) x)
+  unfolding judgedFrom doneFrom
+  judgedFrom-at [] s e = ap (λ (l : List (Step × Bool)). getD l 0 (x, ok) .1) e
+  judgedFrom-at (h ∷ hs) s e = judgedFrom-at hs (stepLeaves s (h .0)) (ap (drop 1) e)
+
+  pub judged-at : (before : List (Step × Bool)) → before ++ ((x, ok) ∷ later) ≡ judged (map (λ h. h .0) (before ++ ((x, ok) ∷ later)))
+      → ok ≡ accepted (stepAnswer (done (map (λ h. h .0) before)) x)
+  unfolding judged done
+  judged-at before e = judgedFrom-at before start e
+
 -- a list of calls is a run
 pub calls-alone : (calls : List Call) → callsOf (map single calls) ≡ calls
 unfolding callsOf callsFrom stepCalls
@@ -267,3 +294,6 @@ calls-alone calls = go calls start
     go : (cs : List Call) (s : State) → callsFrom s (map single cs) ≡ cs
     go [] s = refl
     go (c ∷ cs) s = ap (λ l. c ∷ l) (go cs (stepLeaves s (single c)))
+
+pub calls-leave : (calls : List Call) → done (map single calls) ≡ after calls
+calls-leave calls = run-leaves-its-calls (map single calls) ∙ ap after (calls-alone calls)

@@ -11,17 +11,17 @@ use Rattle.definitions.specs.Reckoning.{Compartment, empty, reckon, comp
 use Rattle.definitions.specs.Questions.{ask, accepted, onAllow}
 use Rattle.definitions.specs.Calls.{State, start, compartment, allowance, together, others, answerIn, answer, allowed, next, afterFrom, after}
 use Rattle.definitions.specs.Script.{Line, call as says, malformed}
-use Rattle.definitions.specs.Bundles.{bundled, bundleOf, callsIn, andThen, inTurn, bundleAnswer, counted, Step, single, bundle, stepAnswer, stepCalls, stepLeaves, doneFrom, done, callsOf}
+use Rattle.definitions.specs.Bundles.{bundled, bundleOf, callsIn, andThen, inTurn, bundleAnswer, counted, Step, single, bundle, stepAnswer, stepCalls, stepLeaves, doneFrom, done}
 use Rattle.definitions.specs.Independence.{allows, own, seenFrom, seen, gotFrom, got, SameFor}
 use Rattle.definitions.specs.declared.answer.Refusal.the-variants.{NoCompartment, Malformed, PoolExceeded, BundleTooLong}
 use Rattle.definitions.specs.declared.answer.Answer.{Answer}
 use Rattle.definitions.specs.declared.answer.Answer.the-variants.{Accepted, Refused}
 use Rattle.definitions.specs.declared.call.Call.{Call}
 use Rattle.definitions.specs.declared.call.Call.the-variants.{Add, Remove, Refcount, Overlaps, Map, Unmap, UnmapGpa, Permissions, Remap, Mappings, Allow}
-use Rattle.definitions.proofs.Reckoned.{set-same, next-accepted, next-allowed, next-refused, length-next, next-at, length-afterFrom, length-after, start-empty}
+use Rattle.definitions.proofs.Reckoned.{set-same, next-accepted, next-allowed, next-refused, length-next, next-at, length-afterFrom, start-empty}
 use Rattle.definitions.proofs.Tables.{noTable, allowOn, answerOn, leaves, startOn, asksOn, nextOn, afterOn}
 use Rattle.definitions.proofs.TableLaws.{shows-start, asks-is, after-is}
-use Rattle.definitions.proofs.Bundles.{run-leaves-its-calls}
+use Rattle.definitions.proofs.Bundles.{done-length}
 
 -- the answer of compartment c, with its allowance, to a call of its own, as if there were no others
 unfoldable pub alone : Compartment → Call × ℕ → Answer
@@ -115,6 +115,10 @@ allowances-kept s call h = go (accepted (answer s call)) refl
     go true d = next-allowed s call d ∙ ap (set (s .allowances) (compartmentOf call)) (others-leave _ call h) ∙ set-same (s .allowances) (compartmentOf call) 0
     go false d = ap (λ t. t .allowances) (next-refused s call d)
 
+pub allowance-kept : (s : State) (call : Call) (k : ℕ) → allows call ≡ false → allowance (next s call) k ≡ allowance s k
+unfolding allowance
+allowance-kept s call k h = ap (λ ms. getD ms k 0) (allowances-kept s call h)
+
 pub compartments-kept : (s : State) (call : Call) → allows call ≡ true → next s call .compartments ≡ s .compartments
 unfolding compartment
 compartments-kept s call h = go (accepted (answer s call)) refl
@@ -135,7 +139,7 @@ unfolding answer answerIn compartmentOf
 allow-answer k n s t q c = ap₂ (λ o d. ask ((k <? 8, NoCompartment) ∷ []) (onAllow o d n)) q c
 
 -- a compartment's own call names it, and is not S
-own-is : (k : ℕ) (call : Call) → own k (single call) ≡ true → (compartmentOf call ≡ k) × (allows call ≡ false)
+pub own-is : (k : ℕ) (call : Call) → own k (single call) ≡ true → (compartmentOf call ≡ k) × (allows call ≡ false)
 unfolding own
 own-is k call h = go (compartmentOf call =? k) refl (allows call) refl
   where
@@ -164,7 +168,7 @@ module _ (k : ℕ) (s : State) (l : length (s .compartments) ≡ 8) (call : Call
 -- A bundle's calls
 
 -- all are the compartment's own
-abbrev Own : ℕ → List Call → Type 0
+abbrev pub Own : ℕ → List Call → Type 0
 Own k [] = Unit {0}
 Own k (c ∷ cs) = (own k (single c) ≡ true) × Own k cs
 
@@ -181,7 +185,7 @@ bundled-own k kind a e rights gs h = go (kind =? 0) (kind =? 1)
     go false true = (mine, h)
     go false false = h
 
-bundle-own : (k : ℕ) (ns : List ℕ) → Own k (callsIn (bundleOf k ns))
+pub bundle-own : (k : ℕ) (ns : List ℕ) → Own k (callsIn (bundleOf k ns))
 unfolding bundleOf callsIn
 bundle-own k [] = tt
 bundle-own k (kind ∷ []) = tt
@@ -201,8 +205,7 @@ module _ (k : ℕ) where
   own-told s c h = let is = own-is k c h in rw (is .0) at (own-answer s c (is .1))
 
   same-allowance : (s : State) (c : Call) → own k (single c) ≡ true → allowance (next s c) k ≡ allowance s k
-  unfolding allowance
-  same-allowance s c h = ap (λ ms. getD ms k 0) (allowances-kept s c (own-is k c h .1))
+  same-allowance s c h = allowance-kept s c k (own-is k c h .1)
 
   turn-alone : (groups : List Line) (s : State) → length (s .compartments) ≡ 8 → Own k (callsIn groups)
       → inTurn s groups ≡ turnAlone (allowance s k) (compartment s k) groups
@@ -258,7 +261,7 @@ module _ (k : ℕ) where
       go true = after-alone (callsIn (bundleOf k ns)) s l (bundle-own k ns)
       go false = refl
 
-  step-other : (s : State) → length (s .compartments) ≡ 8 → (x : Step) → own k x ≡ false
+  pub step-other : (s : State) → length (s .compartments) ≡ 8 → (x : Step) → own k x ≡ false
       → compartment (stepLeaves s x) k ≡ compartment s k
   unfolding own stepLeaves stepCalls counted afterFrom
   step-other s l (single c) h = other-left k s l c h
@@ -268,7 +271,7 @@ module _ (k : ℕ) where
       go true = others-left j h (callsIn (bundleOf j ns)) s l (bundle-own j ns)
       go false = refl
 
-  step-length : (s : State) → length (s .compartments) ≡ 8 → (x : Step) → length (stepLeaves s x .compartments) ≡ 8
+  pub step-length : (s : State) → length (s .compartments) ≡ 8 → (x : Step) → length (stepLeaves s x .compartments) ≡ 8
   unfolding stepLeaves
   step-length s l x = length-afterFrom (stepCalls s x) s ∙ l
 
@@ -319,15 +322,11 @@ module _ (k : ℕ) where
       same : compartment (done xs) k ≡ compartment (done ys) k
       same = left-alone xs ∙ ap (leftAlone empty) e ∙ sym (left-alone ys)
 
-  -- and so they answer its next call or bundle alike
-  done-length : (steps : List Step) → length (done steps .compartments) ≡ 8
-  done-length steps = ap (λ s. length (s .compartments)) (run-leaves-its-calls steps) ∙ length-after (callsOf steps)
-
-  pub same-answer : (xs ys : List Step) → seen k xs ≡ seen k ys → (x : Step) → own k x ≡ true
+  -- Two runs that leave it one compartment and one allowance answer its next call or bundle alike
+  pub same-answer : (xs ys : List Step) → compartment (done xs) k ≡ compartment (done ys) k → (x : Step) → own k x ≡ true
       → allowance (done xs) k ≡ allowance (done ys) k → stepAnswer (done xs) x ≡ stepAnswer (done ys) x
   same-answer xs ys e x o m =
-      step-told (done xs) (done-length xs) x o
-      ∙ ap₂ (λ (c : Compartment) (n : ℕ). stepAlone c x n) (independent xs ys e .left) m
+      step-told (done xs) (done-length xs) x o ∙ ap₂ (λ (c : Compartment) (n : ℕ). stepAlone c x n) e m
       ∙ sym (step-told (done ys) (done-length ys) x o)
 
 -- The answer to S does depend on them: compartment 0 sees nothing of what 1 gives up, and gets it

@@ -29,6 +29,8 @@ pub mod Tables
 pub mod TableLaws
 pub mod Bundles
 pub mod Independence
+pub mod Loan
 pub mod LayoutProofs
 pub mod BundleExamples
+pub mod LoanExamples
 pub mod ScriptExamples

@@ -4,7 +4,7 @@ use mathlib.Core.Path.{_≡_, refl, sym}
 use mathlib.Core.Bool.{Bool, true, false, true≢false, not, _&&_, _||_}
 use mathlib.Core.List.{List, [], _∷_}
 use lib.ListN.{length}
-use borrow.Author.Tests.{ltb-true, leb-true}
+use borrow.Author.Tests.{ltb-true, leb-true, lt-ltb, le-leb}
 use Rattle.definitions.specs.Tests.{_<?_, _≤?_, _=?_, if_then_else_, fits, guestUp, any, keep}
 use Rattle.definitions.specs.Regions.{regions, newRecords}
 use Rattle.definitions.specs.Segments.{segment, overlaps, isIdentity, unmapped, touched, spanInside, unmappedGpa}
@@ -33,6 +33,21 @@ passed (q ∷ qs) x h = go (q .0) refl h (λ k. passed qs x k)
         → (accepted (ask qs x) ≡ true → Passed qs × (accepted x ≡ true)) → Passed (q ∷ qs) × (accepted x ≡ true)
     go true d k ih = let p = ih k in ((d, p .0), p .1)
     go false d k ih = absurd (true≢false (sym k))
+
+-- and the other way round
+pub asked : (qs : List (Bool × Refusal)) (x : Answer) → Passed qs → accepted x ≡ true → accepted (ask qs x) ≡ true
+unfolding ask
+asked [] x p h = h
+asked (q ∷ qs) x p h = simp (p .0) (asked qs x (p .1) h)
+
+pub ranged-asked : (a e : HostAddr) (r : ℕ) (x : Answer) → r < 64 → a .0 ≤ e .0 → ((a .0 =? e .0) ≡ false → accepted x ≡ true)
+    → accepted (ranged a e r x) ≡ true
+unfolding ranged
+ranged-asked a e r x l i h = asked _ _ (lt-ltb r 64 l, (le-leb (a .0) (e .0) i, tt)) (go (a .0 =? e .0) refl)
+  where
+    go : (t : Bool) → (a .0 =? e .0) ≡ t → accepted (if a .0 =? e .0 then Accepted 0 else x) ≡ true
+    go true d = simp d
+    go false d = simp d (h d)
 
 -- What each accepted call that changes something passed, as facts of numbers
 

@@ -1,7 +1,7 @@
 -- How long the table of an add is at its peak, and that what was asked of the records in use is enough.
 use Prim.Native.Nat.{ℕ, suc, _+_, _-_, _^_, _<_, _≤_}
 use mathlib.Core.Path.{_≡_, refl, sym, ap, _∙_}
-use mathlib.Core.Bool.{Bool, true, false, true≢false, not, _&&_, _||_}
+use mathlib.Core.Bool.{Bool, true, false, true≢false, not, _&&_}
 use mathlib.Core.List.{List, [], _∷_, _++_, append-nil}
 use lib.ListN.{length}
 use native.Mathlib.Omega.{arith}
@@ -211,7 +211,7 @@ peak-grows a e f l h b =
 
 -- ---- the records in use stay within what is allowed
 
-length-change : (f : Values → Values) (a e : HostAddr) (rs : List Region) → length (change f a e rs) ≡ length rs
+pub length-change : (f : Values → Values) (a e : HostAddr) (rs : List Region) → length (change f a e rs) ≡ length rs
 unfolding change
 length-change f a e [] = refl
 length-change f a e (r ∷ rs) = ap suc (length-change f a e rs)
@@ -286,20 +286,39 @@ length-removed a e k rs l =
       ap bit (splits-cut a e rs l),
     )
 
+-- question 5 of a remove, in numbers: a record at the cut at start, and one at the cut at end, behind what it has freed by then
+module _ (used allowed : ℕ) (a e : HostAddr) (rs : List Region) where
+  pub cuts-fit : used + bit (any (splits a) rs) ≤ allowed
+      → (any (splits e) rs ≡ true → used + bit (any (splits a) rs) - freed a e rs + 1 ≤ allowed) → cutsFit used allowed a e rs ≡ true
+  unfolding cutsFit
+  cuts-fit i j = go (any (splits e) rs) refl
+    where
+      go : (t : Bool) → any (splits e) rs ≡ t → cutsFit used allowed a e rs ≡ true
+      go true d =
+          simp (d, le-leb (used + bit (any (splits a) rs)) allowed i, le-leb (used + bit (any (splits a) rs) - freed a e rs + 1) allowed (j d))
+      go false d = simp (d, le-leb (used + bit (any (splits a) rs)) allowed i)
+
+  pub cuts-told : cutsFit used allowed a e rs ≡ true
+      → (used + bit (any (splits a) rs) ≤ allowed)
+      × (any (splits e) rs ≡ true → used + bit (any (splits a) rs) - freed a e rs + 1 ≤ allowed)
+  unfolding cutsFit
+  cuts-told h =
+      let p = both _ _ h in (leb-true _ allowed (p .0), λ d. leb-true _ allowed (simp d at (p .1)))
+
 -- so many records are allowed
 module _ (allowed : ℕ) (a e : HostAddr) (k : ℕ) (f : HostAddr → Values) (l : a .0 < e .0) (h : e .0 ≤ 2 ^ 64) (b : Blank f) where
   pub add-fits : length (regions f) + newRecords a e f ≤ allowed → length (regions (changedIn (raise k) a e f)) ≤ allowed
   add-fits m = omega (arith, ap length (added-is a e k f b h), length-added a e k (regions f), peak-grows a e f l h b)
 
   pub remove-fits : cutsFit (length (regions f)) allowed a e (regions f) ≡ true → length (regions (changedIn (lower k) a e f)) ≤ allowed
-  unfolding cutsFit
-  remove-fits m = go (any (splits e) (regions f)) refl (both _ _ m)
+  remove-fits m = go (any (splits e) (regions f)) refl (cuts-told _ allowed a e (regions f) m)
     where
       made : length (regions (changedIn (lower k) a e f)) + freed a e (regions f) ≤ length (regions f) + bit (any (splits a) (regions f)) + bit (any (splits e) (regions f))
       made = rw (removed-is a e k f b h) at (length-removed a e k (regions f) l)
 
       go : (t : Bool) → any (splits e) (regions f) ≡ t
-          → ((length (regions f) + bit (any (splits a) (regions f)) ≤? allowed) ≡ true) × ((not (any (splits e) (regions f)) || (length (regions f) + bit (any (splits a) (regions f)) - freed a e (regions f) + 1 ≤? allowed)) ≡ true)
+          → (length (regions f) + bit (any (splits a) (regions f)) ≤ allowed)
+          × (any (splits e) (regions f) ≡ true → length (regions f) + bit (any (splits a) (regions f)) - freed a e (regions f) + 1 ≤ allowed)
           → length (regions (changedIn (lower k) a e f)) ≤ allowed
-      go true d m = omega (arith, simp d at made, leb-true (length (regions f) + bit (any (splits a) (regions f)) - freed a e (regions f) + 1) allowed (simp d at (m .1)))
-      go false d m = omega (arith, simp d at made, leb-true (length (regions f) + bit (any (splits a) (regions f))) allowed (m .0))
+      go true d m = omega (arith, made, ap bit d, m .1 d)
+      go false d m = omega (arith, made, ap bit d, m .0)

@@ -1,15 +1,15 @@
 -- Document 02, order 4: the pool is never short, over every list of calls. The allowances are together at most its 1,024 records,
 -- no compartment uses more than its allowance, and an accepted add or remove finds its records at its peak.
-use Prim.Native.Nat.{ℕ, zero, suc, _+_, _-_, _^_, _<_, _≤_}
+use Prim.Native.Nat.{ℕ, zero, suc, _+_, _^_, _<_, _≤_}
 use mathlib.Core.Path.{_≡_, refl, sym, ap, ap₂, _∙_}
-use mathlib.Core.Bool.{Bool, true, false, not, _&&_, _||_}
+use mathlib.Core.Bool.{Bool, true, false, not, _&&_}
 use mathlib.Core.List.{List, [], _∷_}
 use lib.ListN.{length, getD, set, replicate}
 use native.Mathlib.Omega.{arith}
-use borrow.Author.Tests.{ltb-true, ltb-false, le-ltb, le-leb, leb-true, eqb-true, eqb-false, ne-eqb}
-use Rattle.definitions.specs.Tests.{_<?_, _≤?_, _=?_, if_then_else_, inside, bit, host, any}
+use borrow.Author.Tests.{ltb-true, ltb-false, le-ltb, eqb-true, eqb-false, ne-eqb}
+use Rattle.definitions.specs.Tests.{_<?_, _=?_, if_then_else_, inside, bit, host, any}
 use Rattle.definitions.specs.Values.{nothing, held, raise, lower, changedIn}
-use Rattle.definitions.specs.Regions.{joined, singles, regionsBelow, regions, splits, freed, unheldIn, newRecords}
+use Rattle.definitions.specs.Regions.{joined, singles, regionsBelow, regions, splits, unheldIn, newRecords}
 use Rattle.definitions.specs.Reckoning.{Compartment, empty, withValues, withSegments, reckon, compartmentOf}
 use Rattle.definitions.specs.Questions.{accepted, inUse, cutsFit}
 use Rattle.definitions.specs.Calls.{State, start, compartment, allowance, together, others, answerIn, answer, allowed, next, afterFrom, after}
@@ -18,10 +18,10 @@ use Rattle.definitions.specs.declared.region.Values.{Values}
 use Rattle.definitions.specs.declared.region.Region.{Region}
 use Rattle.definitions.specs.declared.call.Call.{Call}
 use Rattle.definitions.specs.declared.call.Call.the-variants.{Add, Remove, Refcount, Overlaps, Map, Unmap, UnmapGpa, Permissions, Remap, Mappings, Allow}
-use Rattle.definitions.proofs.Bools.{and-false, both, in-empty, in-low, in-ext}
+use Rattle.definitions.proofs.Bools.{and-false, in-empty, in-low, in-ext}
 use Rattle.definitions.proofs.Lists.{Blank}
 use Rattle.definitions.proofs.RunLaws.{EndBy, regions-ext, regions-below, regions-end}
-use Rattle.definitions.proofs.PeakLaws.{add-fits, remove-fits}
+use Rattle.definitions.proofs.PeakLaws.{cuts-fit, cuts-told, add-fits, remove-fits}
 use Rattle.definitions.proofs.Passed.{add-passed, remove-passed, allow-passed}
 use Rattle.definitions.proofs.Reckoned.{accepted-in, next-accepted, next-allowed, next-refused, length-next, length-allowed, length-after}
 use Rattle.definitions.proofs.Stored.{Stored, stored, stored-next, start-stored}
@@ -66,19 +66,9 @@ module _ (a e t : HostAddr) (f : HostAddr → Values) (far : 2 ^ 64 ≤ e .0) (t
 -- what fits where n of m are used fits where more are used and as many are free
 cuts-more : (n m n' m' : ℕ) (a e : HostAddr) (rs : List Region) → n ≤ n' → n' + m ≤ m' + n → cutsFit n m a e rs ≡ true
     → cutsFit n' m' a e rs ≡ true
-unfolding cutsFit
-cuts-more n m n' m' a e rs g l h = go (any (splits e) rs) refl (both _ _ h)
-  where
-    go : (t : Bool) → any (splits e) rs ≡ t
-        → ((n + bit (any (splits a) rs) ≤? m) ≡ true) × ((not (any (splits e) rs) || (n + bit (any (splits a) rs) - freed a e rs + 1 ≤? m)) ≡ true)
-        → cutsFit n' m' a e rs ≡ true
-    go true d p =
-        let i = leb-true (n + bit (any (splits a) rs)) m (p .0) in
-        let j = leb-true (n + bit (any (splits a) rs) - freed a e rs + 1) m (simp d at (p .1)) in
-        simp (d, le-leb (n' + bit (any (splits a) rs)) m' (omega arith), le-leb (n' + bit (any (splits a) rs) - freed a e rs + 1) m' (omega arith))
-    go false d p =
-        let i = leb-true (n + bit (any (splits a) rs)) m (p .0) in
-        simp (d, le-leb (n' + bit (any (splits a) rs)) m' (omega arith))
+cuts-more n m n' m' a e rs g l h =
+    let p = cuts-told n m a e rs h in
+    cuts-fit n' m' a e rs (omega (arith, p .0)) (λ d. omega (arith, p .0, p .1 d))
 
 -- a bound that a question keeps for every end up to 2 ^ 64 is kept for every end
 module _ (a : HostAddr) (g : Values → Values) (f : HostAddr → Values) (m : ℕ) (now : length (regions f) ≤ m)

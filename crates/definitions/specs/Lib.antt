@@ -13,4 +13,5 @@ pub mod Script
 pub mod Layouts
 pub mod Bundles
 pub mod Independence
+pub mod Loan
 pub mod Tally
