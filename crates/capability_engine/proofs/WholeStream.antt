@@ -1,5 +1,5 @@
--- Demand 3: whatever is called, bundles among it, the whole stream that is read of a compartment is that of its reckoning. And document 02, order
--- 4: the others' calls change nothing of it.
+-- Demand 3: whatever is called, bundles among it, the whole stream that is read of a compartment is that of its reckoning. And
+-- document 02: the others' calls change nothing of it (order 4), nor does a loan that was handed back (order 11).
 use Prim.Native.Nat.{ℕ, _+_, _*_, _-_, _<_, _≤_}
 use mathlib.Core.Path.{_≡_, refl, sym, ap, ap₂, _∙_, subst}
 use mathlib.Core.Bool.{Bool, true}
@@ -14,20 +14,23 @@ use Rattle.definitions.specs.Stream.{stream}
 use Rattle.definitions.specs.Pages.{page, filled, mappingGroup}
 use Rattle.definitions.specs.Reckoning.{Compartment, compartmentOf, reckoning}
 use Rattle.definitions.specs.Questions.{ask, accepted}
-use Rattle.definitions.specs.Calls.{State, start, compartment, streamOf, streamGroups, allowance, answerIn, answer, next, after, fedFrom, fed}
-use Rattle.definitions.specs.Bundles.{Step, single, bundle, stepAnswer, stepCalls, done, callsFrom, callsOf, judgedFrom, judged, stepsFed}
+use Rattle.definitions.specs.Calls.{State, start, compartment, streamOf, streamGroups, allowance, answerIn, answer, next, afterFrom, after, fedFrom, fed}
+use Rattle.definitions.specs.Bundles.{Step, single, bundle, stepAnswer, stepCalls, stepLeaves, doneFrom, done, callsFrom, callsOf, judgedFrom, judged, stepsFed}
 use Rattle.definitions.specs.Independence.{own}
+use Rattle.definitions.specs.Loan.{LeavesNoTrace}
 use Rattle.definitions.specs.declared.answer.Answer.{Answer}
 use Rattle.definitions.specs.declared.answer.Answer.the-variants.{Accepted}
 use Rattle.definitions.specs.declared.call.Call.{Call}
+use Rattle.definitions.specs.declared.call.Call.the-variants.{Add, Remove}
 use Rattle.definitions.specs.declared.remapper.Mapping.{Mapping}
 use Rattle.definitions.proofs.PageLaws.{wide-map, page-rest, last-page, read-length}
 use Rattle.definitions.proofs.StreamLaws.{agrees}
 use Rattle.definitions.proofs.GivenBack.{gives-back}
-use Rattle.definitions.proofs.Reckoned.{reckoned}
+use Rattle.definitions.proofs.Reckoned.{accepted-in, reckoned}
 use Rattle.definitions.proofs.Stored.{stored}
-use Rattle.definitions.proofs.Bundles.{run-leaves-its-calls, run-feeds-its-calls, judged-snoc, callsOf-snoc}
+use Rattle.definitions.proofs.Bundles.{run-leaves-its-calls, run-feeds-its-calls, done-append, judged-snoc, callsOf-snoc, judged-at}
 use Rattle.definitions.proofs.Independence.{independent, same-answer}
+use Rattle.definitions.proofs.Loan.{loan}
 use Rattle.capability_engine.specs.declared.remapper.Remapper.{Remapper}
 use Rattle.capability_engine.specs.declared.stream.RemapCursor.{RemapCursor}
 use Rattle.capability_engine.specs.RemapHeld.{Holds}
@@ -35,7 +38,7 @@ use Rattle.capability_engine.specs.StreamCursor.{Table, Ready, remaining
 use Rattle.capability_engine.specs.CompartmentGrown.{pageLeft}
 use Rattle.capability_engine.specs.CompartmentSteps.{noTracker}
 use Rattle.capability_engine.specs.WholeStream as said
-use Rattle.capability_engine.specs.WholeStream.{Memory, GrownBy, Ran, Page, Paged, ByPages, Copies, Begins, Stepped, ByCursor, StreamIs, stepsOf, Statement, Independent}
+use Rattle.capability_engine.specs.WholeStream.{Memory, GrownBy, Ran, Page, Paged, ByPages, Copies, Begins, Stepped, ByCursor, StreamIs, stepsOf, Statement, SameFor, Independent, lent, Loan}
 use Rattle.capability_engine.proofs.StreamLists.{map-append, each-append}
 use Rattle.capability_engine.proofs.StreamFills.{five, map-drop}
 use Rattle.capability_engine.proofs.CompartmentFacts.{held, whole, stored-is, table}
@@ -218,52 +221,89 @@ unfolding fed
       grown = subst (GrownBy m) (sym (ap (map (λ h. h .0)) hears ∙ fed-calls (callsOf (stepsOf heard)) start)) (t .grown);
     }
 
--- two runs that agree on what is compartment k's leave it one compartment, so whatever is read of it is the same
+-- Two runs that leave compartment k the same: whatever is read of it is the same, and its next call or bundle is answered alike
+module _ (k : ℕ) (l : k < 8) (m n : Memory) (xs ys : List (Step × Bool)) (r : Ran m xs) (q : Ran n ys)
+    (one : compartment (done (stepsOf xs)) k ≡ compartment (done (stepsOf ys)) k) where
+  abbrev calls : List Call
+  calls = callsOf (stepsOf xs)
+
+  abbrev calls' : List Call
+  calls' = callsOf (stepsOf ys)
+
+  gm : GrownBy m calls
+  gm = told r .grown
+
+  gn : GrownBy n calls'
+  gn = told q .grown
+
+  by-xs : done (stepsOf xs) ≡ after calls
+  by-xs = run-leaves-its-calls (stepsOf xs)
+
+  by-ys : done (stepsOf ys) ≡ after calls'
+  by-ys = run-leaves-its-calls (stepsOf ys)
+
+  left : compartment (after calls) k ≡ compartment (after calls') k
+  left = ap (λ s. compartment s k) (sym by-xs) ∙ one ∙ ap (λ s. compartment s k) by-ys
+
+  alike : (x : Step) → own k x ≡ true → allowance (done (stepsOf xs)) k ≡ allowance (done (stepsOf ys)) k
+      → stepAnswer (after calls) x ≡ stepAnswer (after calls') x
+  alike x o s =
+      ap (λ t. stepAnswer t x) (sym by-xs) ∙ same-answer k (stepsOf xs) (stepsOf ys) one x o s
+      ∙ ap (λ t. stepAnswer t x) by-ys
+
+  same-for : SameFor k m n (stepsOf xs) (stepsOf ys)
+  unfolding stepAnswer own
+  same-for = record {
+    changes = λ call m' n' a b o s p p'. p calls gm .answered ∙ alike (single call) o s ∙ sym (p' calls' gn .answered);
+    asks = λ call a b o s p p'. p calls gm .answered ∙ alike (single call) o s ∙ sym (p' calls' gn .answered);
+    bundles = λ ns m' n' a b s p p'. p calls gm .answered ∙ alike (bundle k ns) (eq-eqb k k refl) s ∙ sym (p' calls' gn .answered);
+    regions =
+        stored-is (m .words) (m .next) (m .links) (m .gens) (m .tables) calls gm k l
+        ∙ ap (λ (c : Compartment). regions (c .values)) left
+        ∙ sym (stored-is (n .words) (n .next) (n .links) (n .gens) (n .tables) calls' gn k l);
+    segments = λ other. (
+      compartment (after calls') k .segments,
+      subst (λ (c : Compartment). Holds (getD (m .tables .remappers) k other) (c .segments)) left
+          (held (m .words) (m .next) (m .links) (m .gens) (m .tables) calls gm k l other),
+      held (n .words) (n .next) (n .links) (n .gens) (n .tables) calls' gn k l other,
+    );
+    byPages = λ got got' p p'. by-pages m calls gm k l p ∙ ap (λ c. flat (streamGroups c)) left ∙ sym (by-pages n calls' gn k l p');
+    byCursor = λ found found' p p'. by-cursor m calls gm k l p ∙ ap streamOf left ∙ sym (by-cursor n calls' gn k l p');
+  }
+
+-- two runs that agree on what is compartment k's leave it the same
 pub «independent_streams» : Independent
-unfolding stepAnswer own
-«independent_streams» k l m n xs ys r q e = record {
-  changes = λ call m' n' a b o s p p'. p calls gm .answered ∙ alike (single call) o s ∙ sym (p' calls' gn .answered);
-  asks = λ call a b o s p p'. p calls gm .answered ∙ alike (single call) o s ∙ sym (p' calls' gn .answered);
-  bundles = λ ns m' n' a b s p p'. p calls gm .answered ∙ alike (bundle k ns) (eq-eqb k k refl) s ∙ sym (p' calls' gn .answered);
-  regions =
-      stored-is (m .words) (m .next) (m .links) (m .gens) (m .tables) calls gm k l
-      ∙ ap (λ (c : Compartment). regions (c .values)) left
-      ∙ sym (stored-is (n .words) (n .next) (n .links) (n .gens) (n .tables) calls' gn k l);
-  segments = λ other. (
-    compartment (after calls') k .segments,
-    subst (λ (c : Compartment). Holds (getD (m .tables .remappers) k other) (c .segments)) left
-        (held (m .words) (m .next) (m .links) (m .gens) (m .tables) calls gm k l other),
-    held (n .words) (n .next) (n .links) (n .gens) (n .tables) calls' gn k l other,
-  );
-  byPages = λ got got' p p'. by-pages m calls gm k l p ∙ ap (λ c. flat (streamGroups c)) left ∙ sym (by-pages n calls' gn k l p');
-  byCursor = λ found found' p p'. by-cursor m calls gm k l p ∙ ap streamOf left ∙ sym (by-cursor n calls' gn k l p');
+«independent_streams» k l m n xs ys r q e = same-for k l m n xs ys r q (independent k (stepsOf xs) (stepsOf ys) e .left)
+
+-- and so does a run with a loan behind it that was handed back
+pub «handed_back» : Loan
+unfolding stepAnswer doneFrom stepLeaves stepCalls afterFrom compartmentOf
+«handed_back» m n heard between k a e r ok small ran went apart = record {
+  taken = judged-at (single (Remove k a e r)) ok [] during heard-so ∙ ap (λ s. accepted (answer s (Remove k a e r))) by-steps ∙ gone .taken;
+  allowing = sym (gone .allowing) ∙ ap (λ s. allowance s k) (sym whole);
+  same = same-for k (accepted-in (done (stepsOf heard)) (Add k a e r) given .0) m n heard (lent heard k a e r between ok) ran went
+      (sym (gone .left) ∙ ap (λ s. compartment s k) (sym whole));
 }
   where
-    calls : List Call
-    calls = callsOf (stepsOf xs)
+    during : List (Step × Bool)
+    during = heard ++ ((single (Add k a e r), true) ∷ between)
 
-    calls' : List Call
-    calls' = callsOf (stepsOf ys)
+    steps : List Step
+    steps = stepsOf heard ++ (single (Add k a e r) ∷ stepsOf between)
 
-    gm : GrownBy m calls
-    gm = told r .grown
+    heard-so : during ++ ((single (Remove k a e r), ok) ∷ []) ≡ judged (stepsOf (during ++ ((single (Remove k a e r), ok) ∷ [])))
+    heard-so = told went .same
 
-    gn : GrownBy n calls'
-    gn = told q .grown
+    by-steps : done (stepsOf during) ≡ done steps
+    by-steps = ap done (map-append (λ h. h .0) heard ((single (Add k a e r), true) ∷ between))
 
-    by-xs : done (stepsOf xs) ≡ after calls
-    by-xs = run-leaves-its-calls (stepsOf xs)
+    given : accepted (answer (done (stepsOf heard)) (Add k a e r)) ≡ true
+    given = sym (judged-at (single (Add k a e r)) true (between ++ ((single (Remove k a e r), ok) ∷ [])) heard (rw append-assoc at heard-so))
 
-    by-ys : done (stepsOf ys) ≡ after calls'
-    by-ys = run-leaves-its-calls (stepsOf ys)
+    gone : LeavesNoTrace k a e r (done (stepsOf heard)) (done steps)
+    gone = loan (stepsOf heard) (stepsOf between) k a e r small given apart
 
-    left : compartment (after calls) k ≡ compartment (after calls') k
-    left =
-        ap (λ s. compartment s k) (sym by-xs) ∙ independent k (stepsOf xs) (stepsOf ys) e .left
-        ∙ ap (λ s. compartment s k) by-ys
-
-    alike : (x : Step) → own k x ≡ true → allowance (done (stepsOf xs)) k ≡ allowance (done (stepsOf ys)) k
-        → stepAnswer (after calls) x ≡ stepAnswer (after calls') x
-    alike x o s =
-        ap (λ t. stepAnswer t x) (sym by-xs) ∙ same-answer k (stepsOf xs) (stepsOf ys) e x o s
-        ∙ ap (λ t. stepAnswer t x) by-ys
+    whole : done (stepsOf (lent heard k a e r between ok)) ≡ next (done steps) (Remove k a e r)
+    whole =
+        ap done (map-append (λ h. h .0) during ((single (Remove k a e r), ok) ∷ []))
+        ∙ done-append (stepsOf during) (single (Remove k a e r) ∷ []) ∙ ap (λ s. next s (Remove k a e r)) by-steps

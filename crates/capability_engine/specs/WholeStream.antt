@@ -1,6 +1,6 @@
 -- Demand 3 of document 01, "The reckoning", whole: `Statement`, which proofs/WholeStream.antt proves as `whole_stream`; and, at
--- the end, what document 02, order 4, says of two runs: `Independent`, proved as `independent_streams`. Nothing is assumed but
--- what the functions promise.
+-- the end, what document 02 says of two runs: order 4, `Independent`, proved as `independent_streams`, and order 11, `Loan`, proved
+-- as `handed_back`. Nothing is assumed but what the functions promise.
 use Prim.Native.Nat.{ℕ, _+_, _*_, _/_, _^_, _<_, _≤_}
 use mathlib.Core.Path.{_≡_}
 use mathlib.Core.Bool.{Bool, true}
@@ -16,13 +16,14 @@ use Rattle.definitions.specs.Questions.{accepted}
 use Rattle.definitions.specs.Calls.{streamOf, streamGroups, allowance}
 use Rattle.definitions.specs.Bundles.{Step as RunStep, single, bundle, done, stepsFed}
 use Rattle.definitions.specs.Independence.{own, seen}
+use Rattle.definitions.specs.Loan.{undisturbed}
 use Rattle.definitions.specs.declared.addr.HostAddr.{HostAddr}
 use Rattle.definitions.specs.declared.remapper.Segment.{Segment}
 use Rattle.definitions.specs.declared.remapper.Mapping.{Mapping}
 use Rattle.definitions.specs.declared.answer.Answer.{Answer}
 use Rattle.definitions.specs.declared.answer.Answer.the-variants.{Accepted}
 use Rattle.definitions.specs.declared.call.Call.{Call}
-use Rattle.definitions.specs.declared.call.Call.the-variants.{Remap}
+use Rattle.definitions.specs.declared.call.Call.the-variants.{Add, Remove, Remap}
 use Rattle.capability_engine.specs.declared.remapper.Remapper.{Remapper}
 use Rattle.capability_engine.specs.declared.stream.RemapCursor.{RemapCursor}
 use Rattle.capability_engine.specs.declared.stream.Step.{Step}
@@ -175,3 +176,23 @@ abbrev pub Independent : Type 0
 Independent =
     (k : ℕ) → k < 8 → (m n : Memory) (xs ys : List (RunStep × Bool)) → Ran m xs → Ran n ys
     → seen k (stepsOf xs) ≡ seen k (stepsOf ys) → SameFor k m n (stepsOf xs) (stepsOf ys)
+
+-- Document 02, order 11: a loan handed back leaves no trace. One run, and the same with a loan behind it: an accepted add for
+-- compartment k, then calls and bundles for the others, and reads, then the remove of the same range and rights. That is accepted,
+-- and whoever reads compartment k reads what would have been read without the loan; its allowance is as it was, so its later calls
+-- are answered alike too. (Ends are 64-bit numbers: a record above them would be in no list.)
+pub record HandedBack (k : ℕ) (m n : Memory) (xs ys : List RunStep) (ok : Bool) : Type 0 where
+  pub taken : ok ≡ true
+  pub allowing : allowance (done xs) k ≡ allowance (done ys) k
+  pub same : SameFor k m n xs ys
+
+-- what is heard of a run with a loan behind it
+abbrev pub lent : List (RunStep × Bool) → ℕ → HostAddr → HostAddr → ℕ → List (RunStep × Bool) → Bool → List (RunStep × Bool)
+lent heard k a e r between ok =
+    (heard ++ ((single (Add k a e r), true) ∷ between)) ++ ((single (Remove k a e r), ok) ∷ [])
+
+abbrev pub Loan : Type 0
+Loan =
+    (m n : Memory) (heard between : List (RunStep × Bool)) (k : ℕ) (a e : HostAddr) (r : ℕ) (ok : Bool) → e .0 ≤ 2 ^ 64
+    → Ran m heard → Ran n (lent heard k a e r between ok) → undisturbed k (stepsOf between) ≡ true
+    → HandedBack k m n (stepsOf heard) (stepsOf (lent heard k a e r between ok)) ok
