@@ -9,7 +9,7 @@ abbrev Inv-loop : tie.InvT-loop
 Inv-loop words₀ next₀ links₀ gens₀ t₀ i₀ words next links gens t i = IsGrown words next links gens t
 
 abbrev μ-loop : tie.MeasureT-loop
-μ-loop words₀ next₀ links₀ gens₀ t₀ i₀ words next links gens t i = 98 - i
+μ-loop words₀ next₀ links₀ gens₀ t₀ i₀ words next links gens t i = 131 - i
 
 loop-holds : tie.Need-loop-holds Inv-loop μ-loop
 loop-holds c = search needs
