@@ -195,8 +195,8 @@ fn spoil(bundle: &mut Bundle, r: &mut Random) {
     }
 }
 
-fn random(shape: &Shape, lines: &[Vec<u8>], r: &mut Random) -> Bundle {
-    let compartment = (shape.compartment)(r);
+/// A bundle for a compartment, behind some lines.
+pub fn random(shape: &Shape, compartment: u64, lines: &[Vec<u8>], r: &mut Random) -> Bundle {
     let mut lent = lent(lines, compartment);
     let many = match r.below(16) {
         0 => r.below(2),
@@ -223,7 +223,9 @@ pub fn put_into(script: &mut Script, seed: u64, i: u64) {
     }
     for _ in 0..r.between(1, 3) {
         let at = r.between(script.known as u64, script.lines.len() as u64) as usize;
-        let bundle = random(&shape(i).1, &script.lines[..at], &mut r);
+        let shape = &shape(i).1;
+        let compartment = (shape.compartment)(&mut r);
+        let bundle = random(shape, compartment, &script.lines[..at], &mut r);
         script.lines.insert(at, bundle.entry());
     }
 }

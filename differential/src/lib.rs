@@ -9,6 +9,7 @@ pub mod exchange;
 pub mod guests;
 pub mod judge;
 pub mod line;
+pub mod loans;
 pub mod port;
 pub mod random;
 pub mod report;

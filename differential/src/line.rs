@@ -16,6 +16,11 @@ pub const KINDS: [Kind; 8] =
     [Kind::Add, Kind::Remove, Kind::Count, Kind::Map, Kind::Unmap, Kind::UnmapGpa, Kind::Print, Kind::Allow];
 
 impl Kind {
+    /// Whether its calls change nothing, whatever they are answered.
+    pub fn reads(self) -> bool {
+        matches!(self, Kind::Count | Kind::Print)
+    }
+
     pub fn letter(self) -> u8 {
         match self {
             Kind::Add => b'A',

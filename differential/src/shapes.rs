@@ -282,7 +282,7 @@ impl Shape {
         (self.size)(r)
     }
 
-    fn call(&self, r: &mut Random) -> Call {
+    pub fn call(&self, r: &mut Random) -> Call {
         let kind = self.kind(r);
         let compartment = (self.compartment)(r);
         let numbers = match kind {
@@ -302,7 +302,7 @@ impl Shape {
 }
 
 /// A line with a fault, or with a change that is none.
-fn damaged(line: &[u8], r: &mut Random) -> Vec<u8> {
+pub fn damaged(line: &[u8], r: &mut Random) -> Vec<u8> {
     let mut line = line.to_vec();
     let at = r.below(line.len() as u64) as usize;
     match r.below(10) {

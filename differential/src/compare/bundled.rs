@@ -38,6 +38,7 @@ impl Meant {
 impl Run<'_> {
     /// One bundle: it is compared. Where it is accepted its calls become lines of the script, unless one is named; else it goes from it.
     pub(super) fn bundle(&mut self, bundle: &Bundle, depth: Depth, tally: &mut Tally) -> Result<(), Difference> {
+        self.loans.end(bundle.compartment);
         let meant = self.meant(bundle)?;
         let given = self.script.exchange.bundle(bundle);
         let ours = port::bundle(&self.text[..self.end], &given);
