@@ -1,7 +1,7 @@
 -- What a column says as the code's value, and what becomes of a slice that bytes are put over.
-use Rattle.std.specs.Prelude.{ℕ, ◌+◌, ◌≡◌, List, [], ◌∷◌, length}
+use Rattle.std.specs.Prelude.{ℕ, ◌+◌, ◌≡◌, List, [], ◌∷◌, length, if◌then◌else◌}
 use Rattle.std.proofs.lemmas.List.Edits.{sets}
-use Rattle.definitions.specs.Tests.{◌≤?◌, if◌then◌else◌}
+use Rattle.definitions.specs.Tests.{◌≤?◌}
 use Rattle.definitions.specs.Script.{Read, numbers, unread}
 use Rattle.columns.specs.declared.Column.{Column}
 use Rattle.columns.specs.declared.Column.TheVariants.{Number, Malformed}

@@ -1,4 +1,6 @@
 // Numbers in fixed columns, as the script and its output have them: read from bytes, and written over bytes.
+#![tactic(auto)]
+
 ghost use Rattle.std.specs.Prelude.{◌≡◌, true, ◌&&◌, ◌+◌, ◌-◌, ◌*◌, ◌<◌, ◌≤◌, length, drop};
 ghost use Rattle.std.proofs.lemmas.List.Edits.{sets};
 ghost use Rattle.definitions.specs.Tests.{◌<?◌, ◌≤?◌};
@@ -6,14 +8,14 @@ ghost use Rattle.definitions.specs.Script.{column_of, digits_of, spaced, number_
 ghost use Rattle.columns.specs.Columns.{column_from, Wrote};
 
 // What a column says.
-#[derive(Drop)]
+#[derive(Clone, Copy)]
 pub enum Column {
     Number(u64),
     Malformed,
 }
 
 // Where writing goes on; or there was no room, and nothing is written.
-#[derive(Drop)]
+#[derive(Clone, Copy)]
 pub enum Put {
     At(usize),
     NoRoom,

@@ -1,10 +1,11 @@
 -- What the counts of a region become, from what becomes of each.
+use Rattle.std.specs.Prelude.{if◌then◌else◌}
 use Prim.Native.Nat.{ℕ, ◌+◌, ◌-◌, ◌<◌, ◌^◌}
 use native.Mathlib.Omega.{arith}
 use mathlib.Core.Path.{◌≡◌, refl}
 use mathlib.Core.Bool.{Bool, true, false}
 use borrow.Author.Tests.{lt-ltb, le-ltb}
-use Rattle.definitions.specs.Tests.{◌≤?◌, fits, if◌then◌else◌}
+use Rattle.definitions.specs.Tests.{◌≤?◌, fits}
 use Rattle.definitions.specs.Rights.{Right, named, count_of, counters_of, as_counters}
 use Rattle.definitions.specs.Values.{nothing, raise, lower}
 use Rattle.definitions.specs.Regions.{region}

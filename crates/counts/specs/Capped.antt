@@ -1,6 +1,6 @@
 -- What a count becomes that does not fit 64 bits.
-use Rattle.std.specs.Prelude.{ℕ, ◌-◌, ◌^◌}
-use Rattle.definitions.specs.Tests.{fits, if◌then◌else◌}
+use Rattle.std.specs.Prelude.{ℕ, ◌-◌, ◌^◌, if◌then◌else◌}
+use Rattle.definitions.specs.Tests.{fits}
 use Rattle.definitions.specs.Rights.{count_of, counters_of}
 use Rattle.definitions.specs.declared.region.Values.{Values}
 

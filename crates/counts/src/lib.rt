@@ -1,6 +1,8 @@
 // The counts of one region, raised and lowered in place.
-ghost use Rattle.std.specs.Prelude.{◌≡◌, ◌+◌, ◌-◌};
-ghost use Rattle.definitions.specs.Tests.{if◌then◌else◌, ◌≤?◌};
+#![tactic(auto)]
+
+ghost use Rattle.std.specs.Prelude.{◌≡◌, ◌+◌, ◌-◌, if◌then◌else◌};
+ghost use Rattle.definitions.specs.Tests.{◌≤?◌};
 ghost use Rattle.definitions.specs.Values.{raise, lower};
 ghost use Rattle.definitions.specs.Regions.{region};
 ghost use Rattle.counts.specs.Capped.{capped, capped_counts};

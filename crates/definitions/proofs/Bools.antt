@@ -1,4 +1,5 @@
 -- Laws of the tests and of counting.
+use Rattle.std.specs.Prelude.{if◌then◌else◌}
 use Prim.Native.Nat.{ℕ, ◌+◌, ◌<◌, ◌≤◌}
 use mathlib.Core.Path.{◌≡◌, refl, sym, ap, ◌∙◌}
 use mathlib.Core.Bool.{Bool, true, false, true≢false, not, ◌&&◌, ◌||◌}
@@ -6,7 +7,7 @@ use mathlib.Core.List.{List, [], ◌∷◌, ◌++◌, map}
 use native.Mathlib.Omega.{arith}
 use lib.Dec.{ltb, leb}
 use borrow.Author.Tests.{ltb-true, ltb-false, leb-true, leb-false, lt-ltb, le-ltb, le-leb, lt-leb}
-use Rattle.definitions.specs.Tests.{◌=?◌, if◌then◌else◌, inside, bit, any, count, keep}
+use Rattle.definitions.specs.Tests.{◌=?◌, inside, bit, any, count, keep}
 
 -- where an address lies
 pub data Where (a e x : ℕ) : Type 0 where

@@ -1,11 +1,12 @@
 -- An accepted add or remove leaves longest runs, with the values that the reckoning says.
+use Rattle.std.specs.Prelude.{if◌then◌else◌}
 use Prim.Native.Nat.{ℕ, ◌+◌, ◌-◌, ◌≤◌}
 use mathlib.Core.Path.{◌≡◌, refl, sym, ◌∙◌}
 use mathlib.Core.Bool.{Bool, true, false, true≢false, ◌&&◌, ◌||◌}
 use mathlib.Core.List.{List, [], ◌∷◌, ◌++◌, append-nil}
 use native.Mathlib.Omega.{arith}
 use borrow.Author.Tests.{leb-false, lt-ltb, le-leb}
-use Rattle.definitions.specs.Tests.{◌<?◌, ◌≤?◌, if◌then◌else◌, inside, any, keep}
+use Rattle.definitions.specs.Tests.{◌<?◌, ◌≤?◌, inside, any, keep}
 use Rattle.definitions.proofs.Bools.{Where, inn, low, high, where?, or-true}
 use Rattle.definitions.specs.Values.{nothing, held, raise, lower}
 use Rattle.definitions.specs.Regions.{region, has, within, splits, cut}

@@ -1,6 +1,7 @@
 -- Where guest spans lie. Where a stored segment with repeat 1 reaches a guest address, no other stored one does: a map whose
 -- span shares no address with a stored span keeps that, and so do the unmaps, since what they leave of a segment lies within
 -- its span. So a range strictly inside such a segment touches no other.
+use Rattle.std.specs.Prelude.{if◌then◌else◌}
 use Prim.Native.Nat.{ℕ, ◌+◌, ◌-◌, ◌*◌, ◌<◌, ◌≤◌}
 use mathlib.Core.Path.{◌≡◌, refl, sym, ap, ◌∙◌}
 use mathlib.Core.Bool.{Bool, true, false, true≢false, not, ◌&&◌, ◌||◌}
@@ -9,7 +10,7 @@ use lib.ListN.{length}
 use native.Mathlib.Omega.{arith}
 use native.Mathlib.Nat.{mul-le-mul_left, mul-le-mul_right}
 use borrow.Author.Tests.{ltb-true, ltb-false, lt-ltb, eqb-true, eq-eqb, ne_eqb}
-use Rattle.definitions.specs.Tests.{◌<?◌, ◌≤?◌, ◌=?◌, if◌then◌else◌, inside, bit, guest, host_up, guest_up, any, count, keep}
+use Rattle.definitions.specs.Tests.{◌<?◌, ◌≤?◌, ◌=?◌, inside, bit, guest, host_up, guest_up, any, count, keep}
 use Rattle.definitions.specs.Segments.{segment, span_end, place, front, rest, overlaps, touched, span_inside, place_all}
 use Rattle.definitions.specs.declared.addr.GuestAddr.{GuestAddr}
 use Rattle.definitions.specs.declared.remapper.Segment.{Segment}

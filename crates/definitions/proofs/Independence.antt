@@ -1,12 +1,13 @@
 -- Document 02, orders 4 and 9: what a compartment gets is a function of its own calls and bundles and its allowance at each, so two
 -- runs that agree on these give it the same.
+use Rattle.std.specs.Prelude.{if◌then◌else◌}
 use Prim.Native.Nat.{ℕ}
 use mathlib.Core.Path.{◌≡◌, refl, sym, ap, ap₂, ◌∙◌}
 use mathlib.Core.Bool.{Bool, true, false, true≢false, not, ◌&&◌}
 use mathlib.Core.List.{List, [], ◌∷◌}
 use lib.ListN.{length, get_or, set}
 use borrow.Author.Tests.{eqb-true, eq-eqb}
-use Rattle.definitions.specs.Tests.{◌<?◌, ◌≤?◌, ◌=?◌, if◌then◌else◌, host}
+use Rattle.definitions.specs.Tests.{◌<?◌, ◌≤?◌, ◌=?◌, host}
 use Rattle.definitions.specs.Reckoning.{Compartment, empty, reckon, compartment_of}
 use Rattle.definitions.specs.Questions.{ask, accepted, on_allow}
 use Rattle.definitions.specs.Calls.{State, start, compartment, allowance, together, others, answer_in, answer, allowed, next, after_from, after}

@@ -7,7 +7,6 @@ use mathlib.Core.List.{List, [], ◌∷◌, ◌++◌, map as map_list}
 use native.Mathlib.Omega.{arith}
 use borrow.Author.Tests.{le-leb, lt-leb, lt-ltb, le-ltb, ne_eqb, eq-eqb, leb-true, ltb-true}
 use lib.ListN.{length, get_or, replicate}
-use Rattle.definitions.specs.Tests
 use Rattle.definitions.specs.Tests.{◌<?◌, ◌≤?◌, ◌=?◌, inside, host, guest, host_up, guest_up, fits, all, any}
 use Rattle.definitions.specs.Rights.{RIGHTS, named}
 use Rattle.definitions.specs.Values.{nothing, held, raise, lower, rights_of}

@@ -1,6 +1,7 @@
 -- What an unmap leaves of each address. A host unmap: every address outside its range is covered by as many segments as before,
 -- each of which puts it where it did and has its repeat; an address inside is covered by none. A guest unmap that passed 15:
 -- to a guest address outside its range as many put each host address as before, and to one inside, none.
+use Rattle.std.specs.Prelude.{if◌then◌else◌}
 use Prim.Native.Nat.{ℕ, ◌+◌, ◌-◌, ◌*◌, ◌<◌, ◌≤◌}
 use mathlib.Core.Path.{◌≡◌, refl, sym, ◌∙◌}
 use mathlib.Core.Bool.{Bool, true, false, true≢false, and_assoc, ◌&&◌}
@@ -8,7 +9,7 @@ use mathlib.Core.List.{List, [], ◌∷◌, ◌++◌}
 use native.Mathlib.Omega.{arith}
 use native.Mathlib.Nat.{mul-le-mul_left}
 use borrow.Author.Tests.{ltb-true, ltb-false, leb-true, leb-false, lt-ltb, le-ltb, lt-leb, eqb-true}
-use Rattle.definitions.specs.Tests.{◌<?◌, ◌≤?◌, ◌=?◌, if◌then◌else◌, inside, bit, host_up, guest_up, count, each}
+use Rattle.definitions.specs.Tests.{◌<?◌, ◌≤?◌, ◌=?◌, inside, bit, host_up, guest_up, count, each}
 use Rattle.definitions.specs.Segments.{segment, host_end, covers, span_end, front, rest, cut_out, host_touched, host_parts, unmapped, touched, span_whole, span_parts, unmapped_gpa}
 use Rattle.definitions.specs.Agreement.{aims}
 use Rattle.definitions.specs.declared.addr.HostAddr.{HostAddr}

@@ -1,10 +1,11 @@
 -- The list operations that compute regions and runs: what a table says of an address, the passes of an add and a remove,
 -- and what a segment leaves of a region. The definitions go by address; the laws tie the two.
+use Rattle.std.specs.Prelude.{if◌then◌else◌}
 use Prim.Native.Nat.{ℕ, ◌≤◌, ◌<◌, min, max}
 use mathlib.Core.Path.{◌≡◌}
 use mathlib.Core.Bool.{true, false}
 use mathlib.Core.List.{List, [], ◌∷◌, ◌++◌}
-use Rattle.definitions.specs.Tests.{◌<?◌, ◌≤?◌, if◌then◌else◌, host, keep, each}
+use Rattle.definitions.specs.Tests.{◌<?◌, ◌≤?◌, host, keep, each}
 use Rattle.definitions.specs.Values.{nothing, held, raise, lower}
 use Rattle.definitions.specs.Regions.{region, has, within, joins, joined, cut}
 use Rattle.definitions.specs.Segments.{host_end}

@@ -1,5 +1,6 @@
 -- Document 02, order 11: a loan handed back leaves no trace. After an accepted add, a remove of the same range and rights is
 -- accepted and brings back the compartment as it was.
+use Rattle.std.specs.Prelude.{if◌then◌else◌}
 use Prim.Native.Nat.{ℕ, zero, suc, ◌+◌, ◌-◌, ◌^◌, ◌<◌, ◌≤◌}
 use mathlib.Core.Path.{◌≡◌, refl, sym, ap, ◌∙◌}
 use mathlib.Core.Bool.{Bool, true, false, true≢false, not, ◌&&◌, ◌||◌}
@@ -8,7 +9,7 @@ use lib.ListN.{length, get_or}
 use lib.Seq.{get_or-set_other}
 use native.Mathlib.Omega.{arith}
 use borrow.Author.Tests.{leb-true, lt-ltb, le-ltb, le-leb, lt-leb, eqb-true, eqb-false, eq-eqb, ne_eqb}
-use Rattle.definitions.specs.Tests.{◌<?◌, ◌≤?◌, ◌=?◌, if◌then◌else◌, inside, bit, host, all, any, keep}
+use Rattle.definitions.specs.Tests.{◌<?◌, ◌≤?◌, ◌=?◌, inside, bit, host, all, any, keep}
 use Rattle.definitions.specs.Rights.{Right, RIGHTS, named, count_of}
 use Rattle.definitions.specs.Values.{nothing, held, raise, lower, changed_in}
 use Rattle.definitions.specs.Regions.{region, has, within, meets, same, joins, join, joined, regions, addresses_from, addresses, splits, cut, new_records}

@@ -1,11 +1,12 @@
 -- An accepted call passed each question that it was asked.
+use Rattle.std.specs.Prelude.{if◌then◌else◌}
 use Prim.Native.Nat.{ℕ, ◌+◌, ◌*◌, ◌^◌, ◌<◌, ◌≤◌}
 use mathlib.Core.Path.{◌≡◌, refl, sym}
 use mathlib.Core.Bool.{Bool, true, false, true≢false, not, ◌&&◌, ◌||◌}
 use mathlib.Core.List.{List, [], ◌∷◌}
 use lib.ListN.{length}
 use borrow.Author.Tests.{ltb-true, leb-true, lt-ltb, le-leb}
-use Rattle.definitions.specs.Tests.{◌<?◌, ◌≤?◌, ◌=?◌, if◌then◌else◌, fits, guest_up, any, keep}
+use Rattle.definitions.specs.Tests.{◌<?◌, ◌≤?◌, ◌=?◌, fits, guest_up, any, keep}
 use Rattle.definitions.specs.Regions.{regions, new_records}
 use Rattle.definitions.specs.Segments.{segment, overlaps, is_identity, unmapped, touched, span_inside, unmapped_gpa}
 use Rattle.definitions.specs.Reckoning.{Compartment}

@@ -1,5 +1,6 @@
 -- Document 02, order 13: a list of permissions is given by some script of accepted adds and removes from the empty compartment,
 -- under an allowance, exactly if it can be; and then the planned adds give it.
+use Rattle.std.specs.Prelude.{if◌then◌else◌}
 use Prim.Native.Nat.{ℕ, zero, suc, ◌+◌, ◌*◌, ◌/◌, ◌%◌, ◌^◌, ◌<◌, ◌≤◌}
 use mathlib.Core.Path.{◌≡◌, refl, sym, ap, ap₂, ◌∙◌, subst}
 use mathlib.Core.Bool.{Bool, true, false, true≢false, not, ◌&&◌, ◌||◌}
@@ -7,7 +8,7 @@ use mathlib.Core.List.{List, [], ◌∷◌, ◌++◌, map}
 use lib.ListN.{length, length-map}
 use native.Mathlib.Omega.{arith}
 use borrow.Author.Tests.{ltb-true, ltb-false, leb-true, lt-ltb, le-ltb, le-leb, eqb-true, eqb-false, eq-eqb}
-use Rattle.definitions.specs.Tests.{◌<?◌, ◌≤?◌, ◌=?◌, if◌then◌else◌, inside, bit, fits, host, all, any, total, each}
+use Rattle.definitions.specs.Tests.{◌<?◌, ◌≤?◌, ◌=?◌, inside, bit, fits, host, all, total, each}
 use Rattle.definitions.specs.Rights.{Right, READ, WRITE, EXEC, SUPER, UNCACHEABLE, DEVICE, flag, RIGHTS, named, count_of}
 use Rattle.definitions.specs.Values.{nothing, held, raise, rights_of, changed_in}
 use Rattle.definitions.specs.Regions.{region, has, same, joins, regions, permission_of, unheld_in, new_records}
@@ -27,7 +28,7 @@ use Rattle.definitions.specs.declared.call.Call.{Call}
 use Rattle.definitions.specs.declared.call.Call.TheVariants.{Add, Remove, Refcount, Overlaps, Map, Unmap, UnmapGpa, Permissions, Remap, Mappings, Allow}
 use Rattle.definitions.proofs.Bools.{Where, inn, low, high, where?, in-true, in-high, or-true, both}
 use Rattle.definitions.proofs.RightLaws.{all_true, count-made, named-bit, bit-small, same-eq}
-use Rattle.definitions.proofs.Lists.{values_at, added, peak, Ordered, AllHeld, Ends, Longest, Runs, Blank}
+use Rattle.definitions.proofs.Lists.{values_at, Ordered, AllHeld, Ends, Longest, Runs, Blank}
 use Rattle.definitions.proofs.RegionLaws.{nothing-below}
 use Rattle.definitions.proofs.RunLaws.{EndBy, table_is, below_end, regions-below, regions-runs, regions-ext}
 use Rattle.definitions.proofs.ChangeLaws.{raise-held}

@@ -1,5 +1,6 @@
 -- Document 02, order 4: the pool is never short, over every list of calls. The allowances are together at most its 1,024 records,
 -- no compartment uses more than its allowance, and an accepted add or remove finds its records at its peak.
+use Rattle.std.specs.Prelude.{if◌then◌else◌}
 use Prim.Native.Nat.{ℕ, zero, suc, ◌+◌, ◌^◌, ◌<◌, ◌≤◌}
 use mathlib.Core.Path.{◌≡◌, refl, sym, ap, ap₂, ◌∙◌}
 use mathlib.Core.Bool.{Bool, true, false, not, ◌&&◌}
@@ -7,7 +8,7 @@ use mathlib.Core.List.{List, [], ◌∷◌}
 use lib.ListN.{length, get_or, set, replicate}
 use native.Mathlib.Omega.{arith}
 use borrow.Author.Tests.{ltb-true, ltb-false, le-ltb, eqb-true, eqb-false, ne_eqb}
-use Rattle.definitions.specs.Tests.{◌<?◌, ◌=?◌, if◌then◌else◌, inside, bit, host, any}
+use Rattle.definitions.specs.Tests.{◌<?◌, ◌=?◌, inside, bit, host, any}
 use Rattle.definitions.specs.Values.{nothing, held, raise, lower, changed_in}
 use Rattle.definitions.specs.Regions.{joined, singles, regions_below, regions, splits, unheld_in, new_records}
 use Rattle.definitions.specs.Reckoning.{Compartment, empty, with_values, with_segments, reckon, compartment_of}
@@ -24,7 +25,7 @@ use Rattle.definitions.proofs.RunLaws.{EndBy, regions-ext, regions-below, region
 use Rattle.definitions.proofs.PeakLaws.{cuts-fit, cuts-told, add-fits, remove-fits}
 use Rattle.definitions.proofs.Passed.{add-passed, remove-passed, allow-passed}
 use Rattle.definitions.proofs.Reckoned.{accepted-in, next-accepted, next-allowed, next-refused, length-next, length-allowed, length-after}
-use Rattle.definitions.proofs.Stored.{Stored, stored, stored_next, start-stored}
+use Rattle.definitions.proofs.Stored.{Stored, stored_next, start-stored}
 
 -- the pool's records in use: those of all compartments
 unfoldable pub used : List Compartment → ℕ

@@ -1,5 +1,6 @@
 -- Each compartment after every list of calls is as its reckoning, which is fed only the arguments and whether each call
 -- was accepted.
+use Rattle.std.specs.Prelude.{if◌then◌else◌}
 use Prim.Native.Nat.{ℕ, zero, suc, ◌<◌}
 use mathlib.Core.Path.{◌≡◌, refl, sym, ap, ◌∙◌, subst}
 use mathlib.Core.Bool.{Bool, true, false, ◌&&◌}
@@ -8,7 +9,7 @@ use lib.ListN.{length, get_or, set, replicate, length-set}
 use lib.Seq.{get_or-set_same, get_or-set_other}
 use native.Mathlib.Omega.{arith}
 use borrow.Author.Tests.{ltb-true, eqb-true, eqb-false}
-use Rattle.definitions.specs.Tests.{◌<?◌, ◌=?◌, if◌then◌else◌}
+use Rattle.definitions.specs.Tests.{◌<?◌, ◌=?◌}
 use Rattle.definitions.specs.Reckoning.{Compartment, empty, reckon, compartment_of, reckon_from, reckoning}
 use Rattle.definitions.specs.Questions.{accepted}
 use Rattle.definitions.specs.Calls.{State, start, compartment, allowance, others, answer_in, answer, allowed, next, after_from, after, fed_from, fed}

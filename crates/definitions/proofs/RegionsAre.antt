@@ -1,11 +1,12 @@
 -- The list operations, and the regions made address by address, are one: an add of the one is an add of the other.
+use Rattle.std.specs.Prelude.{if◌then◌else◌}
 use Prim.Native.Nat.{ℕ, ◌^◌, ◌≤◌}
 use mathlib.Core.Path.{◌≡◌, refl, sym, ap, ◌∙◌}
 use mathlib.Core.Bool.{Bool, true, false, true≢false}
 use mathlib.Core.List.{List}
 use native.Mathlib.Omega.{arith}
 use borrow.Author.Tests.{ltb-false}
-use Rattle.definitions.specs.Tests.{◌<?◌, if◌then◌else◌, inside}
+use Rattle.definitions.specs.Tests.{◌<?◌, inside}
 use Rattle.definitions.proofs.Bools.{in-high}
 use Rattle.definitions.specs.Values.{nothing, held, raise, lower, changed_in}
 use Rattle.definitions.specs.Regions.{regions_below, regions}

@@ -1,14 +1,15 @@
 -- The longest runs are determined by the values of the addresses.
+use Rattle.std.specs.Prelude.{if◌then◌else◌}
 use Prim.Native.Nat.{ℕ, zero, suc, ◌+◌, ◌^◌, ◌<◌, ◌≤◌}
 use mathlib.Core.Path.{◌≡◌, refl, sym, ap, ◌∙◌, ap₂}
 use mathlib.Core.Bool.{Bool, true, false, true≢false}
 use mathlib.Core.List.{List, [], ◌∷◌}
 use native.Mathlib.Omega.{arith}
 use borrow.Author.Tests.{ltb-true, ltb-false, lt-ltb, le-ltb, eq-eqb}
-use Rattle.definitions.specs.Tests.{◌<?◌, if◌then◌else◌, inside, host}
+use Rattle.definitions.specs.Tests.{◌<?◌, inside, host}
 use Rattle.definitions.proofs.Bools.{Where, inn, low, high, where?, in-true, in-low, in-high, in-ext, in-empty}
 use Rattle.definitions.specs.Values.{nothing, held}
-use Rattle.definitions.specs.Regions.{region, has, same, joins, join, joined, singles, regions_below, regions}
+use Rattle.definitions.specs.Regions.{region, has, joins, join, joined, singles, regions_below, regions}
 use Rattle.definitions.proofs.RightLaws.{same_refl}
 use Rattle.definitions.proofs.Lists.{values_at, Ordered, AllHeld, Ends, Longest, Runs, Blank}
 use Rattle.definitions.proofs.RegionLaws.{nothing-below, ordered-from, joined-ordered, joined-values}

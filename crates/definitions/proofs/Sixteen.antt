@@ -1,12 +1,13 @@
 -- Document 02, order 1: after every list of calls, question 16, asked after 15, gets a yes.
-use Prim.Native.Nat.{ℕ, ◌<◌}
+use Rattle.std.specs.Prelude.{if◌then◌else◌}
+use Prim.Native.Nat.{ℕ}
 use mathlib.Core.Path.{◌≡◌, refl, sym, ap}
 use mathlib.Core.Bool.{Bool, true, false, true≢false, not, ◌&&◌, ◌||◌}
 use mathlib.Core.List.{List, [], ◌∷◌}
 use lib.ListN.{length}
 use native.Mathlib.Omega.{arith}
 use borrow.Author.Tests.{eqb-false}
-use Rattle.definitions.specs.Tests.{◌<?◌, ◌=?◌, if◌then◌else◌, guest_up, all, any, keep}
+use Rattle.definitions.specs.Tests.{◌<?◌, ◌=?◌, guest_up, all, any, keep}
 use Rattle.definitions.specs.Segments.{is_identity, touched, span_whole, span_inside}
 use Rattle.definitions.specs.Reckoning.{Compartment, compartment_of}
 use Rattle.definitions.specs.Questions.{ask, number_of, refusal_number, ranged, on_add, on_remove, on_refcount, on_overlaps, on_map, on_unmap, on_unmap_gpa, on_allow}

@@ -1,4 +1,5 @@
 -- Tables of lists show a state: what the calls answer and leave of the lists is what they answer and leave of the state.
+use Rattle.std.specs.Prelude.{if◌then◌else◌}
 use Prim.Native.Nat.{ℕ, zero, suc, ◌^◌, ◌<◌, ◌≤◌}
 use mathlib.Core.Path.{◌≡◌, refl, sym, ap, ap₂, ◌∙◌}
 use mathlib.Core.Bool.{Bool, true, false}
@@ -6,7 +7,7 @@ use mathlib.Core.List.{List, [], ◌∷◌, map}
 use native.Mathlib.Omega.{arith}
 use borrow.Author.Tests.{leb-true, eqb-false}
 use lib.ListN.{length, get_or, set, replicate}
-use Rattle.definitions.specs.Tests.{◌<?◌, ◌≤?◌, ◌=?◌, if◌then◌else◌}
+use Rattle.definitions.specs.Tests.{◌<?◌, ◌≤?◌, ◌=?◌}
 use Rattle.definitions.specs.Values.{nothing}
 use Rattle.definitions.specs.Regions.{regions, regions_below, joined, singles, new_records, refcount_of, permission_of}
 use Rattle.definitions.specs.Stream.{stream}

@@ -1,10 +1,11 @@
 -- What the calls answer and leave, computed on lists: the regions of each compartment beside its segments. The definitions
 -- go by address and do not compute; these do, and the laws in TableLaws say that they are the same.
+use Rattle.std.specs.Prelude.{if◌then◌else◌}
 use Prim.Native.Nat.{ℕ, ◌+◌}
 use mathlib.Core.Bool.{Bool, not, ◌&&◌, ◌||◌}
 use mathlib.Core.List.{List, [], ◌∷◌, map}
 use lib.ListN.{length, get_or, set, replicate}
-use Rattle.definitions.specs.Tests.{◌<?◌, ◌≤?◌, ◌=?◌, if◌then◌else◌, bit, all, any}
+use Rattle.definitions.specs.Tests.{◌<?◌, ◌≤?◌, ◌=?◌, bit, all, any}
 use Rattle.definitions.specs.Regions.{meets, splits, refcount_of, permission_of}
 use Rattle.definitions.specs.Segments.{mapped, unmapped, unmapped_gpa}
 use Rattle.definitions.specs.Stream.{stream}

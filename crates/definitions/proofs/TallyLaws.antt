@@ -1,5 +1,6 @@
 -- Document 02, order 8, over every list of calls: an address has a right exactly while, since its holders were last 0, more
 -- accepted adds than removes have named it there.
+use Rattle.std.specs.Prelude.{if◌then◌else◌}
 use Prim.Native.Nat.{ℕ, zero, suc, ◌+◌, ◌-◌, ◌^◌, ◌<◌, ◌≤◌}
 use mathlib.Core.Path.{◌≡◌, refl, sym, ap, ◌∙◌, subst}
 use mathlib.Core.Bool.{Bool, true, false, true≢false, ◌&&◌, ◌||◌}
@@ -7,7 +8,7 @@ use mathlib.Core.List.{List, [], ◌∷◌}
 use lib.ListN.{length}
 use native.Mathlib.Omega.{arith}
 use borrow.Author.Tests.{ltb-true, lt-ltb, le-ltb, leb-false, eqb-true, ne_eqb}
-use Rattle.definitions.specs.Tests.{◌<?◌, ◌≤?◌, ◌=?◌, if◌then◌else◌, inside, bit, all, keep}
+use Rattle.definitions.specs.Tests.{◌<?◌, ◌≤?◌, ◌=?◌, inside, bit, all, keep}
 use Rattle.definitions.specs.Rights.{Right, UNCACHEABLE, named, count_of, counters_of}
 use Rattle.definitions.specs.Values.{nothing, held, raise, lower, rights_of, changed_in}
 use Rattle.definitions.specs.Regions.{has, meets, regions}

@@ -1,12 +1,13 @@
 -- The identity runs of the stream: the longest runs in their region that no segment covers, and the subtraction that
 -- computes them.
+use Rattle.std.specs.Prelude.{if◌then◌else◌}
 use Prim.Native.Nat.{ℕ, suc, ◌+◌, ◌^◌, ◌<◌, ◌≤◌, min, max}
 use mathlib.Core.Path.{◌≡◌, refl, sym, ap, ap₂, ◌∙◌}
 use mathlib.Core.Bool.{Bool, true, false, true≢false, not, ◌&&◌, ◌||◌}
 use mathlib.Core.List.{List, [], ◌∷◌, ◌++◌, append_assoc}
 use native.Mathlib.Omega.{arith}
 use borrow.Author.Tests.{ltb-true, ltb-false, lt-ltb, ne_eqb}
-use Rattle.definitions.specs.Tests.{◌<?◌, if◌then◌else◌, inside, host, host_up, any, each}
+use Rattle.definitions.specs.Tests.{◌<?◌, inside, host, host_up, any, each}
 use Rattle.definitions.specs.Values.{nothing, held}
 use Rattle.definitions.specs.Regions.{region, has, joins, regions}
 use Rattle.definitions.specs.Segments.{covers, host_end}

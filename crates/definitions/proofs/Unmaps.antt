@@ -3,6 +3,7 @@
 -- unmap: to each guest address outside the range, each host address is put by as many as before; to one inside, by none. In a host
 -- unmap this is said of a repeated segment's first copy: the others lie behind it, and a shorter first copy moves them. In a guest
 -- unmap it holds of every copy.
+use Rattle.std.specs.Prelude.{if◌then◌else◌}
 use Prim.Native.Nat.{ℕ, ◌+◌, ◌-◌, ◌%◌, ◌<◌, ◌≤◌}
 use mathlib.Core.Path.{◌≡◌, refl, sym, ap, ◌∙◌}
 use mathlib.Core.Bool.{Bool, true, false, ◌&&◌, ◌||◌}
@@ -11,7 +12,7 @@ use lib.ListN.{length}
 use native.Mathlib.Omega.{arith}
 use native.Mathlib.Nat.{mod-eq_of_lt}
 use borrow.Author.Tests.{leb-true, ltb-true, eqb-true, eqb-false, eq-eqb, ne_eqb}
-use Rattle.definitions.specs.Tests.{◌<?◌, ◌≤?◌, ◌=?◌, if◌then◌else◌, inside, host_up, guest_up, count}
+use Rattle.definitions.specs.Tests.{◌<?◌, ◌≤?◌, ◌=?◌, inside, host_up, guest_up, count}
 use Rattle.definitions.specs.Segments.{host_end, covers, span_end, unmapped, unmapped_gpa}
 use Rattle.definitions.specs.Agreement.{aims}
 use Rattle.definitions.specs.Reckoning.{with_segments, reckon, compartment_of}

@@ -1,21 +1,22 @@
 -- What a cut leaves of a list in host order, as walks along a linked list can make it. What is left of a segment in its place
 -- stays there; the parts behind the range, which are moved up, are put in before their equals, since the segments that were
 -- there already came later. Of a host range these parts all begin at its end; of a guest range there is at most one.
-use Prim.Native.Nat.{ℕ, ◌+◌, ◌-◌, ◌<◌, ◌≤◌}
+use Rattle.std.specs.Prelude.{if◌then◌else◌}
+use Prim.Native.Nat.{ℕ, ◌-◌, ◌<◌, ◌≤◌}
 use mathlib.Core.Path.{◌≡◌, refl, sym, ap, ◌∙◌}
-use mathlib.Core.Bool.{Bool, true, false, true≢false, ◌&&◌}
-use mathlib.Core.List.{List, [], ◌∷◌, ◌++◌, append_assoc, append-nil}
+use mathlib.Core.Bool.{Bool, true, false}
+use mathlib.Core.List.{List, [], ◌∷◌, ◌++◌, append_assoc}
 use lib.ListN.{length, length-append}
 use native.Mathlib.Omega.{arith}
-use borrow.Author.Tests.{ltb-true, ltb-false, leb-true, leb-false, lt-ltb, le-ltb, le-leb, lt-leb, eq-eqb}
-use Rattle.definitions.specs.Tests.{◌<?◌, ◌≤?◌, if◌then◌else◌, bit, guest, count, host_up, all, each}
-use Rattle.definitions.specs.Segments.{segment, host_end, span_end, in_order, place, front, rest, cut_out, host_touched, host_parts, touched, span_whole, span_inside, span_parts, place_all}
+use borrow.Author.Tests.{ltb-true, ltb-false, leb-true, leb-false, lt-ltb, le-ltb, lt-leb, eq-eqb}
+use Rattle.definitions.specs.Tests.{◌<?◌, ◌≤?◌, bit, guest, count, host_up, all, each}
+use Rattle.definitions.specs.Segments.{segment, host_end, span_end, in_order, place, front, rest, cut_out, host_touched, host_parts, touched, span_whole, span_parts, place_all}
 use Rattle.definitions.specs.declared.addr.HostAddr.{HostAddr}
 use Rattle.definitions.specs.declared.addr.GuestAddr.{GuestAddr}
 use Rattle.definitions.specs.declared.remapper.Segment.{Segment}
 use Rattle.definitions.proofs.Bools.{both, and-false, in-true}
-use Rattle.definitions.proofs.SegmentLaws.{Good, AllGood, Single, Singles, singles, single-end, length-place_all, inside as spans-inside}
-use Rattle.definitions.proofs.GuestLaws.{reaches, once, Unshared, once-often, size_reaches, size-within, span-full}
+use Rattle.definitions.proofs.SegmentLaws.{Good, AllGood, Single, Singles, singles}
+use Rattle.definitions.proofs.GuestLaws.{reaches, once, Unshared, once-often, size_reaches}
 
 -- Before its equals
 

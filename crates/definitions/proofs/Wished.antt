@@ -1,5 +1,6 @@
 -- Document 02, order 13: the lines before the adds of a printed script give the compartment its allowance, and behind them the
 -- script gives the wish.
+use Rattle.std.specs.Prelude.{if◌then◌else◌}
 use Prim.Native.Nat.{ℕ, zero, suc, ◌+◌, ◌-◌, ◌*◌, ◌/◌, ◌<◌, ◌≤◌}
 use mathlib.Core.Path.{◌≡◌, refl, sym, ap, ◌∙◌, subst}
 use mathlib.Core.Bool.{Bool, true, false}
@@ -9,7 +10,7 @@ use lib.Seq.{get_or-set_same, get_or-set_other}
 use native.Mathlib.Omega.{arith}
 use native.Mathlib.Decide.{ℕ_discrete, dec_lt}
 use borrow.Author.Tests.{lt-ltb, le-ltb, le-leb, eq-eqb, ne_eqb, eqb-false}
-use Rattle.definitions.specs.Tests.{◌=?◌, if◌then◌else◌, fits, all}
+use Rattle.definitions.specs.Tests.{◌=?◌, fits, all}
 use Rattle.definitions.specs.Reckoning.{empty, compartment_of}
 use Rattle.definitions.specs.Questions.{ask, accepted, in_use, on_allow}
 use Rattle.definitions.specs.Calls.{State, start, compartment, allowance, together, others, answer_in, answer, allowed, next, after_from}

@@ -1,6 +1,6 @@
 -- Document 02, order 9: a bundle of adds and removes for one compartment, and runs of calls and bundles.
-use Rattle.std.specs.Prelude.{ℕ, Bool, true, ◌||◌, List, [], ◌∷◌, ◌++◌, map, length}
-use Rattle.definitions.specs.Tests.{◌<?◌, ◌≤?◌, ◌=?◌, if◌then◌else◌, bit, host}
+use Rattle.std.specs.Prelude.{ℕ, Bool, true, ◌||◌, List, [], ◌∷◌, ◌++◌, map, length, if◌then◌else◌}
+use Rattle.definitions.specs.Tests.{◌<?◌, ◌≤?◌, ◌=?◌, bit, host}
 use Rattle.definitions.specs.Questions.{ask, accepted}
 use Rattle.definitions.specs.Calls.{State, start, answer, after_from}
 use Rattle.definitions.specs.Script.{Line, call, malformed, left}

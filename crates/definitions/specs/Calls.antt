@@ -1,7 +1,7 @@
 -- Document 01, "Modules, leaves first", 4 and 6, and "Questions in order", 1; document 02, order 4: eight compartments, each
 -- with its allowance of the 1,024 records, what each call answers and leaves, and what a list of calls leaves.
-use Rattle.std.specs.Prelude.{ℕ, ◌+◌, Bool, List, [], ◌∷◌, map, length, get_or, set, replicate}
-use Rattle.definitions.specs.Tests.{◌<?◌, if◌then◌else◌}
+use Rattle.std.specs.Prelude.{ℕ, ◌+◌, Bool, List, [], ◌∷◌, map, length, get_or, set, replicate, if◌then◌else◌}
+use Rattle.definitions.specs.Tests.{◌<?◌}
 use Rattle.definitions.specs.Regions.{regions, permission_of}
 use Rattle.definitions.specs.Stream.{stream}
 use Rattle.definitions.specs.Pages.{page, mapping_group, permission_group, region_group, segment_group}

@@ -1,6 +1,6 @@
 -- Document 02, orders 4 and 9: what a run of calls and bundles gives one compartment, and what two runs must have in common to give it the same.
-use Rattle.std.specs.Prelude.{ℕ, ◌≡◌, Bool, true, false, not, ◌&&◌, List, [], ◌∷◌}
-use Rattle.definitions.specs.Tests.{◌=?◌, if◌then◌else◌}
+use Rattle.std.specs.Prelude.{ℕ, ◌≡◌, Bool, true, false, not, ◌&&◌, List, [], ◌∷◌, if◌then◌else◌}
+use Rattle.definitions.specs.Tests.{◌=?◌}
 use Rattle.definitions.specs.Reckoning.{Compartment, compartment_of}
 use Rattle.definitions.specs.Calls.{State, start, compartment, allowance, others, answer}
 use Rattle.definitions.specs.Bundles.{Step, single, bundle, step_answer, step_leaves, done}

@@ -1,6 +1,6 @@
 -- Document 02, order 13: calls for a wanted layout.
-use Rattle.std.specs.Prelude.{ℕ, ◌≡◌, Bool, true, false, ◌&&◌, List, [], ◌∷◌, map, length}
-use Rattle.definitions.specs.Tests.{◌<?◌, ◌≤?◌, ◌=?◌, if◌then◌else◌, host, each}
+use Rattle.std.specs.Prelude.{ℕ, ◌≡◌, Bool, true, false, ◌&&◌, List, [], ◌∷◌, map, length, if◌then◌else◌}
+use Rattle.definitions.specs.Tests.{◌<?◌, ◌≤?◌, ◌=?◌, host, each}
 use Rattle.definitions.specs.Regions.{regions, permission_of}
 use Rattle.definitions.specs.Reckoning.{Compartment, empty, reckon}
 use Rattle.definitions.specs.Pages.{permission_group, page, filled}

@@ -1,6 +1,6 @@
 -- Document 01, "Questions in order, with the number for no", and document 02, orders 4, 9 and 13.
-use Rattle.std.specs.Prelude.{ℕ, ◌+◌, ◌-◌, ◌*◌, Bool, true, false, not, ◌&&◌, ◌||◌, List, [], ◌∷◌, length}
-use Rattle.definitions.specs.Tests.{◌<?◌, ◌≤?◌, ◌=?◌, if◌then◌else◌, bit, fits, guest_up, all, any, keep}
+use Rattle.std.specs.Prelude.{ℕ, ◌+◌, ◌-◌, ◌*◌, Bool, true, false, not, ◌&&◌, ◌||◌, List, [], ◌∷◌, length, if◌then◌else◌}
+use Rattle.definitions.specs.Tests.{◌<?◌, ◌≤?◌, ◌=?◌, bit, fits, guest_up, all, any, keep}
 use Rattle.definitions.specs.Rights.{RIGHTS, named, count_of}
 use Rattle.definitions.specs.Regions.{meets, splits, regions, addresses, add_change, remove_change, new_records, freed, refcount_of}
 use Rattle.definitions.specs.Segments.{overlaps, is_identity, unmapped, touched, span_whole, span_inside, unmapped_gpa}

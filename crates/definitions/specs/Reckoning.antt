@@ -1,7 +1,7 @@
 -- Document 01, "The reckoning": one compartment's, fed the arguments of each call for it and whether that was accepted,
 -- nothing else.
-use Rattle.std.specs.Prelude.{ℕ, Bool, ◌&&◌, List, [], ◌∷◌}
-use Rattle.definitions.specs.Tests.{◌=?◌, if◌then◌else◌}
+use Rattle.std.specs.Prelude.{ℕ, Bool, ◌&&◌, List, [], ◌∷◌, if◌then◌else◌}
+use Rattle.definitions.specs.Tests.{◌=?◌}
 use Rattle.definitions.specs.Values.{nothing, raise, lower, changed_in}
 use Rattle.definitions.specs.Segments.{mapped, unmapped, unmapped_gpa}
 use Rattle.definitions.specs.declared.addr.HostAddr.{HostAddr}

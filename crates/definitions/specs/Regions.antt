@@ -1,6 +1,6 @@
 -- Document 01, "What an address holds": records, here regions, what an add or a remove changes, and the records it needs.
-use Rattle.std.specs.Prelude.{ℕ, zero, suc, ◌+◌, ◌-◌, ◌^◌, max, Bool, not, ◌&&◌, ◌||◌, List, [], ◌∷◌, length}
-use Rattle.definitions.specs.Tests.{◌<?◌, ◌≤?◌, ◌=?◌, if◌then◌else◌, inside, bit, host, all, any, count, keep}
+use Rattle.std.specs.Prelude.{ℕ, zero, suc, ◌+◌, ◌-◌, ◌^◌, max, Bool, not, ◌&&◌, ◌||◌, List, [], ◌∷◌, length, if◌then◌else◌}
+use Rattle.definitions.specs.Tests.{◌<?◌, ◌≤?◌, ◌=?◌, inside, bit, host, all, any, count, keep}
 use Rattle.definitions.specs.Rights.{RIGHTS, count_of}
 use Rattle.definitions.specs.Values.{nothing, held, raise, lower, rights_of}
 use Rattle.definitions.specs.declared.addr.HostAddr.{HostAddr}

@@ -1,6 +1,6 @@
 -- Document 01, "Script and output": lines in, lines out, as functions on bytes.
-use Rattle.std.specs.Prelude.{ℕ, zero, suc, ◌+◌, ◌-◌, ◌*◌, ◌/◌, ◌%◌, Bool, ◌&&◌, List, [], ◌∷◌, ◌++◌, map, length, take, drop, replicate}
-use Rattle.definitions.specs.Tests.{◌<?◌, ◌≤?◌, ◌=?◌, if◌then◌else◌, fits, host, guest, each}
+use Rattle.std.specs.Prelude.{ℕ, zero, suc, ◌+◌, ◌-◌, ◌*◌, ◌/◌, ◌%◌, Bool, ◌&&◌, List, [], ◌∷◌, ◌++◌, map, length, take, drop, replicate, if◌then◌else◌}
+use Rattle.definitions.specs.Tests.{◌<?◌, ◌≤?◌, ◌=?◌, fits, host, guest, each}
 use Rattle.definitions.specs.Pages.{mapping_group}
 use Rattle.definitions.specs.Questions.{number_of, value_of}
 use Rattle.definitions.specs.Calls.{State, start, compartment, stream_of, answer, next}
@@ -114,11 +114,12 @@ unfoldable pub heading : List ℕ
 heading = 97 ∷ 110 ∷ 115 ∷ replicate 16 32 ++ (118 ∷ 97 ∷ 108 ∷ 117 ∷ 101 ∷ 10 ∷ [])
 
 -- then per line the answer (0 or refusal) in 3 columns and a value in 21
+unfoldable pub answer_line : Answer → List ℕ
+answer_line a = number_in 3 (number_of a) ++ (number_in 21 (value_of a) ++ (10 ∷ []))
+
+-- such a line of any number and value
 abbrev pub answer_columns : ℕ → ℕ → List ℕ
 answer_columns number value = number_in 3 number ++ (number_in 21 value ++ (10 ∷ []))
-
-unfoldable pub answer_line : Answer → List ℕ
-answer_line a = answer_columns (number_of a) (value_of a)
 
 -- P adds its mappings, five columns of 21.
 unfoldable pub mapping_line : Mapping → List ℕ

@@ -1,6 +1,6 @@
 -- Document 01, "The stream (`remap`)".
-use Rattle.std.specs.Prelude.{◌+◌, ◌-◌, min, max, not, ◌&&◌, List, [], ◌∷◌, ◌++◌, map}
-use Rattle.definitions.specs.Tests.{◌<?◌, ◌≤?◌, if◌then◌else◌, host, guest, guest_up, any, keep, each}
+use Rattle.std.specs.Prelude.{◌-◌, min, max, not, ◌&&◌, List, [], ◌∷◌, ◌++◌, map, if◌then◌else◌}
+use Rattle.definitions.specs.Tests.{◌<?◌, ◌≤?◌, host, guest, guest_up, any, keep, each}
 use Rattle.definitions.specs.Values.{nothing, rights_of}
 use Rattle.definitions.specs.Regions.{has, meets, regions}
 use Rattle.definitions.specs.Segments.{covers, host_end}

@@ -1,7 +1,7 @@
 -- Document 02, order 8: "A held address is uncacheable exactly while, since its holders were last 0, more accepted adds than
 -- removes have named it there." Here is what is counted, of any right.
-use Rattle.std.specs.Prelude.{ℕ, ◌+◌, ◌-◌, Bool, ◌&&◌, List, [], ◌∷◌}
-use Rattle.definitions.specs.Tests.{◌≤?◌, ◌=?◌, if◌then◌else◌, inside}
+use Rattle.std.specs.Prelude.{ℕ, ◌+◌, ◌-◌, Bool, ◌&&◌, List, [], ◌∷◌, if◌then◌else◌}
+use Rattle.definitions.specs.Tests.{◌≤?◌, ◌=?◌, inside}
 use Rattle.definitions.specs.Rights.{Right, named}
 use Rattle.definitions.specs.Reckoning.{compartment_of}
 use Rattle.definitions.specs.declared.addr.HostAddr.{HostAddr}

@@ -1,10 +1,9 @@
 -- Tests that compute, and the few list functions that the definitions use.
-use Rattle.std.specs.Prelude.{ℕ, ◌+◌, ◌^◌, Bool, true, false, ◌&&◌, ◌||◌, List, [], ◌∷◌, ◌++◌, ltb, leb, eqb}
+use Rattle.std.specs.Prelude.{ℕ, ◌+◌, ◌^◌, Bool, true, false, if◌then◌else◌, ◌&&◌, ◌||◌, List, [], ◌∷◌, ◌++◌, ltb, leb, eqb}
 use Rattle.definitions.specs.declared.addr.HostAddr.{HostAddr}
 use Rattle.definitions.specs.declared.addr.GuestAddr.{GuestAddr}
 
 infix 40 ◌<?◌ ◌≤?◌ ◌=?◌
-infix 10 if◌then◌else◌
 abbrev pub ◌<?◌ : ℕ → ℕ → Bool
 a <? b = ltb a b
 
@@ -39,11 +38,6 @@ host_up h d = record { 0 = h.0 + d }
 
 unfoldable pub guest_up : GuestAddr → ℕ → GuestAddr
 guest_up g d = record { 0 = g.0 + d }
-
-module _ {ℓ} {A : Type ℓ} where
-  abbrev pub if◌then◌else◌ : Bool → A → A → A
-  if◌then◌else◌ true a b = a
-  if◌then◌else◌ false a b = b
 
 module _ {A : Type 0} where
   abbrev pub all : (A → Bool) → List A → Bool

@@ -1,7 +1,7 @@
 -- Document 01, "What an address holds": the values of an address, and how an accepted add or remove changes them; with
 -- document 02, orders 8 and 10: uncacheable and device are counted as the other rights are.
-use Rattle.std.specs.Prelude.{ℕ, ◌+◌, ◌-◌, ◌*◌, Bool}
-use Rattle.definitions.specs.Tests.{◌<?◌, ◌≤?◌, if◌then◌else◌, inside, bit, total}
+use Rattle.std.specs.Prelude.{ℕ, ◌+◌, ◌-◌, ◌*◌, Bool, if◌then◌else◌}
+use Rattle.definitions.specs.Tests.{◌<?◌, ◌≤?◌, inside, bit, total}
 use Rattle.definitions.specs.Rights.{flag, RIGHTS, named, count_of, counters_of}
 use Rattle.definitions.specs.declared.addr.HostAddr.{HostAddr}
 use Rattle.definitions.specs.declared.region.MemOps.{MemOps}

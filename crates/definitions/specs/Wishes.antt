@@ -1,7 +1,7 @@
 -- Document 02, order 13: a wish as text, and the script that is printed for it. The columns are document 01's; which lines set
 -- allowances, and the lines for a refusal, are our decision (docs/DECISIONS.md).
-use Rattle.std.specs.Prelude.{ℕ, zero, suc, ◌+◌, ◌-◌, ◌/◌, not, List, [], ◌∷◌, ◌++◌, map}
-use Rattle.definitions.specs.Tests.{◌<?◌, ◌≤?◌, ◌=?◌, if◌then◌else◌}
+use Rattle.std.specs.Prelude.{ℕ, zero, suc, ◌+◌, ◌-◌, ◌/◌, not, List, [], ◌∷◌, ◌++◌, map, if◌then◌else◌}
+use Rattle.definitions.specs.Tests.{◌<?◌, ◌≤?◌, ◌=?◌}
 use Rattle.definitions.specs.Pages.{permission_group}
 use Rattle.definitions.specs.Questions.{refusal_number}
 use Rattle.definitions.specs.Script.{Read, numbers, unread, lines_of, columns_of, script_line, answer_columns, answer_line}

@@ -1,6 +1,6 @@
 // Host and guest physical addresses are two types, so that one cannot stand for the other.
-#[derive(Drop)]
+#[derive(Clone, Copy)]
 pub struct HostAddr(pub u64);
 
-#[derive(Drop)]
+#[derive(Clone, Copy)]
 pub struct GuestAddr(pub u64);

@@ -3,7 +3,7 @@ ghost use Rattle.std.specs.Prelude.{◌≡◌};
 ghost use Rattle.definitions.specs.Questions.{number_of, value_of, refusal_number};
 
 // One for each question, in the order of their numbers; the comment says what got a no.
-#[derive(Drop)]
+#[derive(Clone, Copy)]
 pub enum Refusal {
     NoCompartment, // 1: the compartment is below 8
     InvalidMemOps, // 2: the rights are below 64
@@ -27,7 +27,7 @@ pub enum Refusal {
 }
 
 // Accepted with a value, or refused.
-#[derive(Drop)]
+#[derive(Clone, Copy)]
 pub enum Answer {
     Accepted(u64),
     Refused(Refusal),

@@ -4,7 +4,7 @@ ghost use Rattle.definitions.specs.Reckoning.{compartment_of};
 
 use crate::addr::{GuestAddr, HostAddr};
 
-#[derive(Drop)]
+#[derive(Clone, Copy)]
 pub enum Call {
     Add(u64, HostAddr, HostAddr, u64), // start, end, rights
     Remove(u64, HostAddr, HostAddr, u64), // start, end, rights

@@ -1,4 +1,6 @@
 // The engine's plain types, by value, with the pure methods on them. What they mean is in specs/.
+#![tactic(auto)]
+
 mod addr;
 mod answer;
 mod call;

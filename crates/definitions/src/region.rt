@@ -7,10 +7,10 @@ ghost use Rattle.definitions.specs.Regions.{has, same};
 
 use crate::addr::HostAddr;
 
-#[derive(Drop)]
+#[derive(Clone, Copy)]
 pub struct MemOps(pub u64);
 
-#[derive(Drop)]
+#[derive(Clone, Copy)]
 pub struct Counters {
     pub read: u64,
     pub write: u64,
@@ -21,14 +21,14 @@ pub struct Counters {
 }
 
 // The values of an address: the holders and the counters.
-#[derive(Drop)]
+#[derive(Clone, Copy)]
 pub struct Values {
     pub refcount: u64,
     pub counters: Counters,
 }
 
 // A run of held addresses, [start, end), with all values equal.
-#[derive(Drop)]
+#[derive(Clone, Copy)]
 pub struct Region {
     pub start: HostAddr,
     pub end: HostAddr,
@@ -38,7 +38,7 @@ pub struct Region {
 // The numbers of a stored region: its range, holders and a count for each right.
 pub const RECORD_LEN: usize = 9;
 
-#[derive(Drop)]
+#[derive(Clone, Copy)]
 pub struct MemoryPermission {
     pub start: HostAddr,
     pub end: HostAddr,

@@ -2,7 +2,7 @@
 use crate::addr::{GuestAddr, HostAddr};
 use crate::region::MemOps;
 
-#[derive(Drop)]
+#[derive(Clone, Copy)]
 pub struct Segment {
     pub hpa: HostAddr,
     pub gpa: GuestAddr,
@@ -10,7 +10,7 @@ pub struct Segment {
     pub repeat: u64,
 }
 
-#[derive(Drop)]
+#[derive(Clone, Copy)]
 pub struct Mapping {
     pub hpa: HostAddr,
     pub gpa: GuestAddr,

@@ -1,10 +1,12 @@
 // Slots last freed, first reused, over an array of N numbers that the caller lends.
 // links[i] is the next free slot after i, N for none at the last one, and N + 1 where slot i is in use.
+#![tactic(auto)]
+
 ghost use Rattle.std.specs.Prelude.{◌≡◌, List, [], ℕ, length};
 ghost use Rattle.free_list.specs.Stack.{FreeListCall, after, has, capacity_of};
 ghost use Rattle.free_list.specs.Grown.{Grown, IsGrown, Allocates, Frees, first_cursor, next_from};
 
-#[derive(Drop)]
+#[derive(Clone, Copy)]
 pub struct FreeList {
     // The first free slot, or N for none.
     pub head: usize,
@@ -13,33 +15,33 @@ pub struct FreeList {
 }
 
 // What allocate hands out.
-#[derive(Drop)]
+#[derive(Clone, Copy)]
 pub enum Slot {
     At(usize),
     Full,
 }
 
-#[derive(Drop)]
+#[derive(Clone, Copy)]
 pub struct Allocated {
     pub list: FreeList,
     pub slot: Slot,
 }
 
 // What free leaves, and whether it freed the slot.
-#[derive(Drop)]
+#[derive(Clone, Copy)]
 pub struct Freed {
     pub list: FreeList,
     pub done: bool,
 }
 
 // A place among the slots: the next one to look at.
-#[derive(Drop)]
+#[derive(Clone, Copy)]
 pub struct FreeListIterator {
     pub next: usize,
 }
 
 // The slot in use that a cursor came to, with the cursor behind it.
-#[derive(Drop)]
+#[derive(Clone, Copy)]
 pub enum InUse {
     At(usize, FreeListIterator),
     End,

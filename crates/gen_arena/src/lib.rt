@@ -1,6 +1,8 @@
 // Handles to slots, each with the generation of its slot: a slot that was freed is at another generation.
 // The arena keeps slot numbers alone, and what they stand for is kept beside it. The caller lends links, the
 // free list's array, and gens, the generation of each slot.
+#![tactic(auto)]
+
 ghost use Rattle.std.specs.Prelude.{◌≡◌, ℕ, List, length, replicate, nat_le};
 ghost use Rattle.free_list.specs.Stack.{capacity_of};
 ghost use Rattle.gen_arena.specs.Arena.{ArenaCall, after, invalid, is_invalid, found, slot_or, first_live, next_live};
@@ -8,59 +10,59 @@ ghost use Rattle.gen_arena.specs.Grown.{GrownArena, IsArena, Creates, AllocatesH
 
 use free_list::{FreeList, FreeListIterator, InUse, Slot};
 
-#[derive(Drop)]
+#[derive(Clone, Copy)]
 pub struct GenArena {
     pub free_list: FreeList,
 }
 
-#[derive(Drop)]
+#[derive(Clone, Copy)]
 pub struct Handle {
     pub idx: usize,
     pub generation: u64,
 }
 
 // What new makes; Uneven where there are not as many generations as links.
-#[derive(Drop)]
+#[derive(Clone, Copy)]
 pub enum Created {
     Arena(GenArena),
     Uneven,
 }
 
 // What allocate hands out.
-#[derive(Drop)]
+#[derive(Clone, Copy)]
 pub enum NewHandle {
     Made(Handle),
     Full,
 }
 
-#[derive(Drop)]
+#[derive(Clone, Copy)]
 pub struct Allocated {
     pub arena: GenArena,
     pub handle: NewHandle,
 }
 
 // What free leaves, and whether it freed the slot.
-#[derive(Drop)]
+#[derive(Clone, Copy)]
 pub struct Freed {
     pub arena: GenArena,
     pub done: bool,
 }
 
 // The slot that a handle finds.
-#[derive(Drop)]
+#[derive(Clone, Copy)]
 pub enum Found {
     At(usize),
     Nothing,
 }
 
 // A place among the slots.
-#[derive(Drop)]
+#[derive(Clone, Copy)]
 pub struct ArenaIterator {
     pub iterator: FreeListIterator,
 }
 
 // The handle that a cursor came to, with the cursor behind it.
-#[derive(Drop)]
+#[derive(Clone, Copy)]
 pub enum Live {
     At(Handle, ArenaIterator),
     End,

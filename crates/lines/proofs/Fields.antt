@@ -1,4 +1,5 @@
 -- A line's columns, one after the other.
+use Rattle.std.specs.Prelude.{if◌then◌else◌}
 use mathlib.Core.Path.{◌≡◌, refl, sym, ap, ◌∙◌}
 use mathlib.Core.Bool.{Bool, true, false, not}
 use mathlib.Core.List.{List, [], ◌∷◌, ◌++◌}
@@ -9,7 +10,7 @@ use native.Mathlib.Decide.{dec_lt}
 use lib.ListN.{length, get_or, take, drop, set, replicate, length-drop, drop_of_length-le}
 use lib.Seq.{drop-drop, take-suc-set}
 use borrow.Author.Tests.{le-leb, lt-leb, not-true, not-false}
-use Rattle.definitions.specs.Tests.{◌≤?◌, if◌then◌else◌}
+use Rattle.definitions.specs.Tests.{◌≤?◌}
 use Rattle.definitions.specs.Script.{Read, numbers, unread, also_read, column_of, first_then, columns_of, arity, call_of, line_of}
 use Rattle.columns.specs.Columns.{column_from}
 use Rattle.columns.specs.declared.Column.TheVariants.{Number, Malformed}

@@ -1,5 +1,6 @@
 -- A script's bytes in pieces: what the lines say that begin with bytes held and go on with others. 88 bytes are held at most,
 -- and no line so long is of the form.
+use Rattle.std.specs.Prelude.{if◌then◌else◌}
 use Prim.Native.Nat.{ℕ, suc, ◌+◌, ◌-◌, ◌<◌, ◌≤◌}
 use mathlib.Core.Path.{◌≡◌, refl, sym, ap, ◌∙◌}
 use mathlib.Core.Bool.{Bool, true, false, true≢false}
@@ -9,7 +10,7 @@ use native.Mathlib.Omega.{arith}
 use lib.ListN.{length, get_or, take, drop, set, length-append, length-set}
 use lib.Seq.{drop-nil, take-suc-set, length-take-le}
 use borrow.Author.Tests.{ltb-true, ltb-false, ne_eqb}
-use Rattle.definitions.specs.Tests.{◌<?◌, ◌=?◌, if◌then◌else◌}
+use Rattle.definitions.specs.Tests.{◌<?◌, ◌=?◌}
 use Rattle.definitions.specs.Script.{Line, call, malformed, cons_byte, lines_of, arity, line_of}
 use Rattle.lines.specs.Lines.{line_from, lines_with, takes}
 use Rattle.lines.specs.declared.Taken.{Taken}

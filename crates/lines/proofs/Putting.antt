@@ -1,4 +1,5 @@
 -- Lines are put one after the other, as many as fit. Assumes nothing.
+use Rattle.std.specs.Prelude.{if◌then◌else◌}
 use Prim.Native.Nat.{ℕ, ◌+◌, ◌-◌, ◌<◌, ◌≤◌}
 use mathlib.Core.Path.{◌≡◌, refl, sym, ap, ◌∙◌}
 use mathlib.Core.Bool.{Bool, true, false}
@@ -7,7 +8,7 @@ use native.Mathlib.Omega.{arith}
 use lib.ListN.{length, length-append}
 use lib.Seq.{sets}
 use borrow.Author.Tests.{leb-true, leb-false, le-leb, lt-leb}
-use Rattle.definitions.specs.Tests.{◌≤?◌, if◌then◌else◌, each}
+use Rattle.definitions.specs.Tests.{◌≤?◌, each}
 use Rattle.definitions.specs.Script.{whole_lines}
 use Rattle.columns.specs.Columns.{place_after, slice_after, Wrote}
 use Rattle.columns.specs.declared.Put.{Put}

@@ -1,4 +1,5 @@
 -- A call's line holds no byte 10, so it ends where the first byte 10 stands behind it.
+use Rattle.std.specs.Prelude.{if◌then◌else◌}
 use Prim.Native.Nat.{ℕ, suc, ◌+◌, ◌-◌, ◌*◌, ◌<◌, ◌≤◌}
 use mathlib.Core.Path.{◌≡◌, refl, sym, ap, subst, ◌∙◌}
 use mathlib.Core.Bool.{Bool, true, false, ◌&&◌}
@@ -8,7 +9,7 @@ use native.Mathlib.Omega.{arith}
 use lib.ListN.{length, get_or, take, drop, replicate, take-append-drop}
 use lib.Seq.{drop-cons, drop-drop}
 use borrow.Author.Tests.{ne_eqb}
-use Rattle.definitions.specs.Tests.{◌≤?◌, ◌=?◌, if◌then◌else◌, fits}
+use Rattle.definitions.specs.Tests.{◌≤?◌, ◌=?◌, fits}
 use Rattle.definitions.specs.Script.{Read, numbers, unread, Line, call, malformed, is_digit, digits_of, column_of, first_then, columns_of, arity, call_of, line_of, cons_byte, lines_of}
 use Rattle.definitions.specs.declared.call.Call.{Call}
 use Rattle.lines.specs.Lines.{line_from, lines_with, Begins}

@@ -112,6 +112,12 @@ pub answer-columns : (at x v : ℕ) (a : Answer) (e l : List ℕ) (r : Put) → 
 unfolding answer_line
 answer-columns at x v a e l r p q w = rw (p, q) at w
 
+pub answer-all : (at : ℕ) (a : Answer) (x v : ℕ) (e l m : List ℕ) (r r' : Put) → at + 25 ≤ length e → x ≡ number_of a
+    → v ≡ value_of a → Wrote at (number_in 3 x) e r l → Wrote (at + 3) (number_in 21 v) l r' m
+    → Wrote at (answer_line a) e (At (at + 25)) (set m (at + 24) 10)
+answer-all at a x v e l m r r' h p q w w' =
+    answer-columns at x v a e (set m (at + 24) 10) (At (at + 25)) p q (columns-all at x v e l m r r' h w w')
+
 -- a script's line, part by part
 pub line-written : (at letter k : ℕ) (ns e l m : List ℕ) (r : Put) → at + (4 + 21 * length ns) ≤ length e
     → Wrote (at + 1) (number_in 2 k) (set e at letter) r l → m ≡ sets l (at + 3) (each (number_in 21) ns)

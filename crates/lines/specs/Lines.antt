@@ -1,6 +1,6 @@
 -- What a line says as the code's value.
-use Rattle.std.specs.Prelude.{ℕ, ◌+◌, ◌<◌, ◌≤◌, ◌≡◌, Bool, true, false, List, [], ◌∷◌, ◌++◌, length, drop, set}
-use Rattle.definitions.specs.Tests.{◌<?◌, ◌=?◌, if◌then◌else◌}
+use Rattle.std.specs.Prelude.{ℕ, ◌+◌, ◌<◌, ◌≤◌, ◌≡◌, Bool, true, false, List, [], ◌∷◌, ◌++◌, length, drop, set, if◌then◌else◌}
+use Rattle.definitions.specs.Tests.{◌<?◌, ◌=?◌}
 use Rattle.definitions.specs.Script.{Read, numbers, unread, call, malformed, line_of, lines_of}
 use Rattle.definitions.specs.Script as Script
 use Rattle.definitions.specs.declared.call.Call as definitions

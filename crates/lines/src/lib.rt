@@ -1,4 +1,6 @@
 // The script's lines, read, and the lines of the output, each written whole into a lent slice or not at all.
+#![tactic(auto)]
+
 ghost use Rattle.std.specs.Prelude.{◌≡◌, [], ◌∷◌, ◌+◌, ◌*◌, ◌<◌, ◌≤◌, length, take, drop, replicate};
 ghost use Rattle.std.proofs.lemmas.List.Edits.{sets};
 ghost use Rattle.definitions.specs.Tests.{each};
@@ -11,14 +13,14 @@ use columns::{Column, Put};
 use definitions::{Answer, Call, GuestAddr, HostAddr, Mapping, MemoryPermission};
 
 // What a line says: a call, or none of the form, which is refusal 17.
-#[derive(Drop)]
+#[derive(Clone, Copy)]
 pub enum Line {
     Call(Call),
     Malformed,
 }
 
 // How far bytes are taken, how many of the line are held, and whether its end was met.
-#[derive(Drop)]
+#[derive(Clone, Copy)]
 pub struct Taken {
     pub used: usize,
     pub len: usize,
@@ -124,7 +126,7 @@ pub fn parse_line(line: &[u8]) -> Line
 }
 
 // What comes next in an input: a call's line with its end, up to a place; or anything else.
-#[derive(Drop)]
+#[derive(Clone, Copy)]
 pub enum Ahead {
     Whole(Call, usize),
     Other,

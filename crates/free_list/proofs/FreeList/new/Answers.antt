@@ -1,0 +1,9 @@
+use borrow.Author.Rules.{rules}
+use Rattle.free_list.proofs.Calls.{filled, fresh}
+use Rattle.free_list.proofs.FreeList.new.Goals as goal
+
+pub loop-i-preserved : goal.loop-i-preserved
+loop-i-preserved c = (search rules, search rules, filled c.loop-i.links c.loop-i.i (search rules) c.loop-i.invariant.2)
+
+pub returns : goal.returns
+returns c = fresh _ c.loop-i.i _ (search rules) c.loop-i.invariant.1 c.loop-i.invariant.2
