@@ -1,11 +1,9 @@
 -- A call on one tracker or one remapper of the eight, kind by kind.
 use Prim.Native.Nat.{ℕ, ◌-◌}
-use mathlib.Core.Path.{◌≡◌, sym, ap, ◌∙◌}
+use mathlib.Core.Path.{◌≡◌, refl, sym, ap, ◌∙◌}
 use mathlib.Core.Bool.{true, true≢false}
-use mathlib.Core.List.{List, [], ◌∷◌}
+use mathlib.Core.List.{List}
 use lib.ListN.{get_or}
-use types.Run.{OneOf, miss}
-use denote.Enum.Declared.{tag_of}
 use Rattle.gen_arena.specs.declared.GenArena.{GenArena}
 use Rattle.definitions.specs.Regions.{refcount_of}
 use Rattle.definitions.specs.Reckoning.{compartment_of, with_segments, reckon}
@@ -15,7 +13,6 @@ use Rattle.definitions.specs.declared.addr.GuestAddr.{GuestAddr}
 use Rattle.definitions.specs.declared.answer.Answer.TheVariants.{Accepted}
 use Rattle.definitions.specs.declared.call.Call.{Call}
 use Rattle.definitions.specs.declared.call.Call.TheVariants.{Add, Remove, Refcount, Overlaps, Map, Unmap, UnmapGpa, Permissions, Remap, Mappings, Allow}
-use Rattle.definitions.specs.contracts.call.Call.{the_type}
 use Rattle.capability_engine.specs.declared.region.RegionTracker.{RegionTracker}
 use Rattle.capability_engine.specs.declared.region.Changed.{Changed as RegionChanged}
 use Rattle.capability_engine.specs.declared.region.Allowed.{Allowed}
@@ -69,19 +66,20 @@ pub on-allow : (trackers : List RegionTracker) (k n : ℕ) (d : RegionTracker) (
 on-allow trackers k n d u all ea al = λ words nx links gens t calls g l et. allow-answers words nx links gens t calls g k l d n u (rw (et, sym ea) al)
 
 -- no other call is on regions
-pub not-regions : (call : Call) → OneOf (3 ∷ 4 ∷ 5 ∷ 6 ∷ 7 ∷ 8 ∷ 9 ∷ 10 ∷ []) (tag_of the_type call) → on_regions call ≡ true → ⊥
+pub not-regions : (call : Call) → ((k : ℕ) (a e : HostAddr) (n : ℕ) → call ≡ Add k a e n → ⊥) → ((k : ℕ) (a e : HostAddr) (n : ℕ) → call ≡ Remove k a e n → ⊥)
+    → ((k : ℕ) (a e : HostAddr) → call ≡ Refcount k a e → ⊥) → on_regions call ≡ true → ⊥
 unfolding on_regions
-not-regions (Add k a e r) h o = miss (3 ∷ 4 ∷ 5 ∷ 6 ∷ 7 ∷ 8 ∷ 9 ∷ 10 ∷ []) 0 tt h
-not-regions (Remove k a e r) h o = miss (3 ∷ 4 ∷ 5 ∷ 6 ∷ 7 ∷ 8 ∷ 9 ∷ 10 ∷ []) 1 tt h
-not-regions (Refcount k a e) h o = miss (3 ∷ 4 ∷ 5 ∷ 6 ∷ 7 ∷ 8 ∷ 9 ∷ 10 ∷ []) 2 tt h
-not-regions (Overlaps k g n) h o = true≢false (sym o)
-not-regions (Map k x g n t) h o = true≢false (sym o)
-not-regions (Unmap k x n) h o = true≢false (sym o)
-not-regions (UnmapGpa k g n) h o = true≢false (sym o)
-not-regions (Permissions k i n) h o = true≢false (sym o)
-not-regions (Remap k i n) h o = true≢false (sym o)
-not-regions (Mappings k) h o = true≢false (sym o)
-not-regions (Allow k n) h o = true≢false (sym o)
+not-regions (Add k a e r) h i j o = h k a e r refl
+not-regions (Remove k a e r) h i j o = i k a e r refl
+not-regions (Refcount k a e) h i j o = j k a e refl
+not-regions (Overlaps k g n) h i j o = true≢false (sym o)
+not-regions (Map k x g n t) h i j o = true≢false (sym o)
+not-regions (Unmap k x n) h i j o = true≢false (sym o)
+not-regions (UnmapGpa k g n) h i j o = true≢false (sym o)
+not-regions (Permissions k m n) h i j o = true≢false (sym o)
+not-regions (Remap k m n) h i j o = true≢false (sym o)
+not-regions (Mappings k) h i j o = true≢false (sym o)
+not-regions (Allow k n) h i j o = true≢false (sym o)
 
 -- ---- on segments
 
@@ -99,16 +97,17 @@ module _ (remapper : Remapper) (r : Change) (call : Call) (k : ℕ) where
   on-unmap-gpa g n ec does = rw ec (λ q m c held o. does c held)
 
 -- no other call changes segments
-pub not-segments : (call : Call) → OneOf (0 ∷ 1 ∷ 2 ∷ 3 ∷ 7 ∷ 8 ∷ 9 ∷ 10 ∷ []) (tag_of the_type call) → on_segments call ≡ true → ⊥
+pub not-segments : (call : Call) → ((k : ℕ) (x : HostAddr) (g : GuestAddr) (n t : ℕ) → call ≡ Map k x g n t → ⊥) → ((k : ℕ) (x : HostAddr) (n : ℕ) → call ≡ Unmap k x n → ⊥)
+    → ((k : ℕ) (g : GuestAddr) (n : ℕ) → call ≡ UnmapGpa k g n → ⊥) → on_segments call ≡ true → ⊥
 unfolding on_segments
-not-segments (Add k a e r) h o = true≢false (sym o)
-not-segments (Remove k a e r) h o = true≢false (sym o)
-not-segments (Refcount k a e) h o = true≢false (sym o)
-not-segments (Overlaps k g n) h o = true≢false (sym o)
-not-segments (Map k x g n t) h o = miss (0 ∷ 1 ∷ 2 ∷ 3 ∷ 7 ∷ 8 ∷ 9 ∷ 10 ∷ []) 4 tt h
-not-segments (Unmap k x n) h o = miss (0 ∷ 1 ∷ 2 ∷ 3 ∷ 7 ∷ 8 ∷ 9 ∷ 10 ∷ []) 5 tt h
-not-segments (UnmapGpa k g n) h o = miss (0 ∷ 1 ∷ 2 ∷ 3 ∷ 7 ∷ 8 ∷ 9 ∷ 10 ∷ []) 6 tt h
-not-segments (Permissions k i n) h o = true≢false (sym o)
-not-segments (Remap k i n) h o = true≢false (sym o)
-not-segments (Mappings k) h o = true≢false (sym o)
-not-segments (Allow k n) h o = true≢false (sym o)
+not-segments (Add k a e r) h i j o = true≢false (sym o)
+not-segments (Remove k a e r) h i j o = true≢false (sym o)
+not-segments (Refcount k a e) h i j o = true≢false (sym o)
+not-segments (Overlaps k g n) h i j o = true≢false (sym o)
+not-segments (Map k x g n t) h i j o = h k x g n t refl
+not-segments (Unmap k x n) h i j o = i k x n refl
+not-segments (UnmapGpa k g n) h i j o = j k g n refl
+not-segments (Permissions k m n) h i j o = true≢false (sym o)
+not-segments (Remap k m n) h i j o = true≢false (sym o)
+not-segments (Mappings k) h i j o = true≢false (sym o)
+not-segments (Allow k n) h i j o = true≢false (sym o)

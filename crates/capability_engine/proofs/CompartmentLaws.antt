@@ -1,4 +1,5 @@
 -- One compartment's list is worked on; the others stay.
+use Rattle.std.specs.Prelude.{if◌then◌else◌}
 use Prim.Native.Nat.{ℕ, zero, suc, ◌+◌, ◌-◌, ◌^◌, ◌≤◌, ◌<◌}
 use mathlib.Core.Path.{◌≡◌, refl, sym, ap, ap₂, ◌∙◌, subst}
 use mathlib.Core.Bool.{Bool, true, false}
@@ -10,7 +11,7 @@ use lib.ListN.{get_or, set, drop, length, length-set, length-map, drop_of_length
 use lib.Seq.{get_or-set_same, get_or-set_other, set-get_or, drop-cons}
 use borrow.Author.Tests.{lt-ltb, le-ltb, leb-true}
 use Rattle.gen_arena.specs.declared.GenArena.{GenArena}
-use Rattle.definitions.specs.Tests.{◌<?◌, ◌≤?◌, if◌then◌else◌}
+use Rattle.definitions.specs.Tests.{◌<?◌, ◌≤?◌}
 use Rattle.definitions.specs.Values.{changed_in, raise, lower}
 use Rattle.definitions.specs.Regions.{regions, refcount_of}
 use Rattle.definitions.specs.Reckoning.{Compartment, empty, reckon, compartment_of, with_values}
@@ -39,7 +40,7 @@ use Rattle.definitions.proofs.Reckoned.{after-snoc, next-accepted, next-allowed,
 use Rattle.capability_engine.specs.declared.region.RegionTracker.{RegionTracker}
 use Rattle.capability_engine.specs.declared.region.Allowed.{Allowed}
 use Rattle.capability_engine.specs.PoolWords.{region_at}
-use Rattle.capability_engine.specs.PoolChain.{Seg, cnt, slots, records, Listed, Walkable, stored_at}
+use Rattle.capability_engine.specs.PoolChain.{Seg, cnt, slots, Listed, Walkable, stored_at}
 use Rattle.capability_engine.specs.PoolOwn.{Heap, heap, free_of, Own, mine_of}
 use Rattle.capability_engine.specs.RegionAsks.{Tracked, Allotted, AllowsOne, Counts, Untouched, Moved, Changes, Countable}
 use Rattle.capability_engine.specs.StreamCursor.{Whole}

@@ -1,6 +1,6 @@
 -- Eight empty compartments over a pool whose slots are all free.
 use Prim.Native.Nat.{ℕ, zero, suc, ◌+◌, ◌≤◌, ◌<◌}
-use mathlib.Core.Path.{◌≡◌, refl, sym, ap, ap₂, ◌∙◌}
+use mathlib.Core.Path.{◌≡◌, subst, ◌≡◌, refl, sym, ap, ap₂, ◌∙◌}
 use mathlib.Core.Bool.{Bool, true, false, true≢false}
 use mathlib.Core.List.{List, [], ◌∷◌}
 use native.Mathlib.Omega.{arith}
@@ -36,7 +36,7 @@ up-once : (x k m : ℕ) → k ≤ x → x < k + m → cnt x (up_from k m) ≡ 1
 up-once x k zero l h = absurd (omega arith)
 up-once x k (suc m) l h =
     elim (ℕ_discrete x k) [
-      | yes e ↦ rw e (omega (arith, bit-same k, up-low k (suc k) m (omega arith)))
+      | yes e ↦ subst (λ (z : ℕ). cnt z (up_from k (suc m)) ≡ 1) (sym e) (omega (arith, bit-same k, up-low k (suc k) m (omega arith)))
       | no e ↦ omega (arith, bit-other {t = x} {s = k} e, up-once x (suc k) m (omega arith) (omega arith))
     ]
 

@@ -1,6 +1,6 @@
 -- Laws of the links.
 use Prim.Native.Nat.{ℕ, zero, suc, ◌+◌, ◌≤◌, ◌<◌}
-use mathlib.Core.Path.{◌≡◌, refl, sym, ap, ◌∙◌}
+use mathlib.Core.Path.{◌≡◌, subst, ◌≡◌, refl, sym, ap, ◌∙◌}
 use mathlib.Core.Logic.{◌≢◌}
 use mathlib.Core.List.{List, [], ◌∷◌, ◌++◌, map}
 use native.Mathlib.Omega.{arith}
@@ -127,7 +127,7 @@ pub seg-relink : (nx : List ℕ) (p : ℕ) (a : List ℕ) (j v : ℕ) → ((t : 
     → Seg nx (get_or nx p 0) a j → Seg (set nx (last p a) v) (get_or (set nx (last p a) v) p 0) a v
 seg-relink nx p [] j v u l g = get_or-set_same nx p v 0 l
 seg-relink nx p (s ∷ a) j v u l g =
-    let n : p ≢ last s a = λ e. let w : 1 ≤ cnt p (s ∷ a) = rw (← e) at (cnt-last s a) in omega (arith, u p, bit-same p) in
+    let n : p ≢ last s a = λ e. let w : 1 ≤ cnt p (s ∷ a) = subst (λ (z : ℕ). 1 ≤ cnt z (s ∷ a)) (sym e) (cnt-last s a) in omega (arith, u p, bit-same p) in
     (get_or-set_other nx (last s a) p v 0 n ∙ g.0, g.1, seg-relink nx s a j v (λ t. omega (arith, u t)) l g.2)
 
 -- ---- inserted after the last of p and a, and taken out there
@@ -143,7 +143,7 @@ seg-insert nx p a x b k u z lx lx' lp g =
     let zb : cnt x b ≡ 0 = omega (arith, cnt-append x a b) in
     let zq : cnt q b ≡ 0 = omega (arith, cnt-append q a b, u q, cnt-last p a) in
     let xp : x ≢ p = bit-apart x p (omega arith) in
-    let xq : x ≢ q = λ e. let w : 1 ≤ cnt x (p ∷ a) = rw (← e) at (cnt-last p a) in omega (arith, cnt-append x a b) in
+    let xq : x ≢ q = λ e. let w : 1 ≤ cnt x (p ∷ a) = subst (λ (z : ℕ). 1 ≤ cnt z (p ∷ a)) (sym e) (cnt-last p a) in omega (arith, cnt-append x a b) in
     let ga : Seg nx (get_or nx p 0) a (get_or nx q 0) = seg-first nx p a b k g in
     let ga1 : Seg n1 (get_or n1 p 0) a (get_or nx q 0) =
     rw (get_or-set_other nx x p (get_or nx q 0) 0 (λ e. xp (sym e))) (seg-set nx x (get_or nx q 0) (get_or nx p 0) a (get_or nx q 0) za ga) in

@@ -1,7 +1,7 @@
 -- Passes over the list that is worked on: how one is shown, and two after another.
 use Prim.Native.Nat.{ℕ, ◌+◌, ◌<◌}
 use mathlib.Core.Path.{◌≡◌, refl, sym, ◌∙◌}
-use mathlib.Core.List.{List, []}
+use mathlib.Core.List.{List}
 use lib.ListN.{get_or, length}
 use Rattle.definitions.specs.declared.region.Region.{Region}
 use Rattle.capability_engine.specs.PoolWords.{region_at, pool_len}

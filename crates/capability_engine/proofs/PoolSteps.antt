@@ -1,8 +1,8 @@
 -- The three elementary passes: a record is written over, one goes in, one goes out.
 use Prim.Native.Nat.{ℕ, ◌+◌, ◌≤◌, ◌<◌}
-use mathlib.Core.Path.{◌≡◌, refl, ap, ap₂, ◌∙◌}
+use mathlib.Core.Path.{◌≡◌, sym, subst, ◌≡◌, refl, ap, ap₂, ◌∙◌}
 use mathlib.Core.Logic.{◌≢◌}
-use mathlib.Core.List.{List, [], ◌∷◌, ◌++◌}
+use mathlib.Core.List.{List, ◌∷◌, ◌++◌}
 use native.Mathlib.Omega.{arith}
 use lib.ListN.{length, length-append}
 use lib.Dec.{eqb}
@@ -48,7 +48,7 @@ module _ (nx ws : List ℕ) (fl fl' : Heap) (pre post : List ℕ) (n : ℕ) (r :
   -- the slot before the place is 1,024 or mine
   before-mine : (t : ℕ) → t < 1024 → cnt t (pre ++ post) ≡ 0 → t ≢ last 1024 pre
   before-mine t l z e =
-      let w : 1 ≤ cnt t (1024 ∷ pre) = rw (← e) at (cnt-last 1024 pre) in
+      let w : 1 ≤ cnt t (1024 ∷ pre) = subst (λ (z : ℕ). 1 ≤ cnt z (1024 ∷ pre)) (sym e) (cnt-last 1024 pre) in
       omega (arith, cnt-append t pre post, bit-other {t = t} {s = 1024} (λ q. omega arith))
 
   count-free : (t : ℕ) → cnt t (free_of fl) ≡ bit (eqb t n) + cnt t (free_of fl')
@@ -77,5 +77,5 @@ module _ (nx ws : List ℕ) (fl fl' : Heap) (pre post : List ℕ) (s : ℕ) (o :
       (omega (arith, ap length p.free, length-append pre post, length-append pre (s ∷ post)))
       (λ t l z.
       unlinked-other nx (last 1024 pre) t
-      (λ e. let w : 1 ≤ cnt t (1024 ∷ pre) = rw (← e) at (cnt-last 1024 pre) in omega (arith, cnt-append t pre (s ∷ post), bit-other {t = t} {s = 1024} (λ q. omega arith))))
+      (λ e. let w : 1 ≤ cnt t (1024 ∷ pre) = subst (λ (z : ℕ). 1 ≤ cnt z (1024 ∷ pre)) (sym e) (cnt-last 1024 pre) in omega (arith, cnt-append t pre (s ∷ post), bit-other {t = t} {s = 1024} (λ q. omega arith))))
       (λ t l z. refl)

@@ -1,14 +1,13 @@
 -- A part of the list is worked on by itself: what lies before it and behind it is taken off the ring, and put back.
 use Prim.Native.Nat.{ℕ, ◌+◌, ◌≤◌, ◌<◌}
-use mathlib.Core.Path.{◌≡◌, refl, sym, ap, ap₂, ◌∙◌}
+use mathlib.Core.Path.{◌≡◌, subst, ◌≡◌, refl, sym, ap, ap₂, ◌∙◌}
 use mathlib.Core.Logic.{◌≢◌}
 use mathlib.Core.List.{List, [], ◌∷◌, ◌++◌, append-nil, append_assoc}
 use native.Mathlib.Omega.{arith}
 use native.Mathlib.Decide.{dec_lt}
-use lib.ListN.{get_or, set, length, length-set, length-append}
+use lib.ListN.{get_or, set, length-set, length-append}
 use lib.Seq.{get_or-set_same, get_or-set_other}
 use Rattle.definitions.specs.declared.region.Region.{Region}
-use Rattle.capability_engine.specs.PoolWords.{region_at}
 use Rattle.capability_engine.specs.PoolChain.{Seg, cnt, last, slots, records, Listed}
 use Rattle.capability_engine.specs.PoolOwn.{Heap, free_of, Own, mine_of, shortened, narrowed, lengthened, widened, Pass}
 use Rattle.capability_engine.proofs.PoolLinks.{bit-other, cnt-append, cnt-last, seg-frame, seg-set, seg-join, seg-first, seg-second, seg-relink, slots-are}
@@ -28,7 +27,7 @@ last_fits {nx} {h} {ss} p q g l e = rw e (last-le nx h p ss 1024 g.seg l)
 -- a slot that is not among a is not the last of them
 not_last : (t : ℕ) (a : List ℕ) → t < 1024 → cnt t a ≡ 0 → t ≢ last 1024 a
 not_last t a l z e =
-    let w : 1 ≤ cnt t (1024 ∷ a) = rw (← e) at (cnt-last 1024 a) in
+    let w : 1 ≤ cnt t (1024 ∷ a) = subst (λ (z : ℕ). 1 ≤ cnt z (1024 ∷ a)) (sym e) (cnt-last 1024 a) in
     omega (arith, bit-other {t = t} {s = 1024} (λ (q : t ≡ 1024). omega arith))
 
 -- ---- what lies behind

@@ -1,4 +1,5 @@
 -- What the walks that ask find out is what the definitions say of the list.
+use Rattle.std.specs.Prelude.{if◌then◌else◌}
 use Prim.Native.Nat.{ℕ, suc, ◌+◌, ◌-◌, ◌≤◌, ◌<◌, max}
 use mathlib.Core.Path.{◌≡◌, refl, sym, ap, ap₂, ◌∙◌}
 use mathlib.Core.Bool.{Bool, true, false, not, ◌&&◌, ◌||◌}
@@ -7,7 +8,7 @@ use native.Mathlib.Omega.{arith}
 use native.Mathlib.Decide.{dec_lt}
 use lib.ListN.{length}
 use borrow.Author.Tests.{lt-ltb, le-ltb, le-leb, lt-leb, eq-eqb, ne_eqb}
-use Rattle.definitions.specs.Tests.{◌<?◌, ◌≤?◌, ◌=?◌, if◌then◌else◌, bit, all, any, count, keep}
+use Rattle.definitions.specs.Tests.{◌<?◌, ◌≤?◌, ◌=?◌, bit, all, any, count, keep}
 use Rattle.definitions.specs.Values.{nothing, raise}
 use Rattle.definitions.specs.Regions.{region, meets, splits, within, cut, freed, greatest, refcount_of}
 use Rattle.definitions.specs.Questions.{ask, ranged, every_named, begun, last_end, cuts_fit, can_lower}

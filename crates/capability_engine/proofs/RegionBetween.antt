@@ -1,6 +1,6 @@
 -- An add or a remove that works on a part of the list by itself: what its passes ask, and what they show of the whole list.
 use Prim.Native.Nat.{ℕ, ◌+◌, ◌≤◌, ◌<◌}
-use mathlib.Core.Path.{◌≡◌, refl, sym, ap, ◌∙◌}
+use mathlib.Core.Path.{◌≡◌, sym, ap, ◌∙◌}
 use mathlib.Core.List.{List, [], ◌∷◌, ◌++◌, append_assoc}
 use native.Mathlib.Omega.{arith}
 use lib.ListN.{get_or, length, length-append, length-map}
@@ -10,8 +10,8 @@ use Rattle.definitions.specs.declared.addr.HostAddr.{HostAddr}
 use Rattle.definitions.specs.declared.region.Region.{Region}
 use Rattle.definitions.proofs.Lists.{change, peak, added, removed, Runs}
 use Rattle.capability_engine.specs.PoolWords.{region_at}
-use Rattle.capability_engine.specs.PoolChain.{last, slots, records, Listed, Walkable, SkipsThrough}
-use Rattle.capability_engine.specs.PoolOwn.{Heap, free_of, Own, Ready, Room, mine_of, records_of, Pass, Place, narrowed, shortened, widened, Narrows, CanWiden}
+use Rattle.capability_engine.specs.PoolChain.{slots, records, Listed, Walkable, SkipsThrough}
+use Rattle.capability_engine.specs.PoolOwn.{Heap, free_of, Own, Ready, Room, mine_of, records_of, Pass, Place, narrowed, widened, Narrows, CanWiden}
 use Rattle.capability_engine.specs.RegionPasses.{lowered, AllSmall, CanApplyRemove, CanAddBetween, CanRemoveBetween}
 use Rattle.capability_engine.specs.declared.region.Outside.{Outside}
 use Rattle.capability_engine.proofs.PoolLinks.{slots-are}

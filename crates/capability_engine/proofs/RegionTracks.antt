@@ -1,4 +1,5 @@
 -- A compartment's list, taken into the ring and worked on.
+use Rattle.std.specs.Prelude.{if◌then◌else◌}
 use Prim.Native.Nat.{ℕ, suc, ◌+◌, ◌-◌, ◌^◌, ◌≤◌, ◌<◌}
 use mathlib.Core.Path.{◌≡◌, refl, sym, ap, ◌∙◌, subst}
 use mathlib.Core.Bool.{Bool, true, false, true≢false, not, ◌&&◌, ◌||◌}
@@ -13,7 +14,7 @@ use Rattle.gen_arena.specs.Arena.{ArenaCall, list_call, after}
 use Rattle.gen_arena.specs.Grown.{GrownArena}
 use Rattle.gen_arena.specs.declared.GenArena.{GenArena}
 use Rattle.gen_arena.proofs.Laws.{slots-after}
-use Rattle.definitions.specs.Tests.{◌<?◌, ◌≤?◌, ◌=?◌, if◌then◌else◌, bit, any, count}
+use Rattle.definitions.specs.Tests.{◌<?◌, ◌≤?◌, ◌=?◌, bit, any, count}
 use Rattle.definitions.specs.Values.{nothing, held, raise, lower}
 use Rattle.definitions.specs.Regions.{region, has, within, splits, cut, freed, regions}
 use Rattle.definitions.specs.Questions.{ask, accepted, ranged, cuts_fit, can_lower, begun, last_end}
@@ -36,7 +37,7 @@ use Rattle.definitions.proofs.Tables.{can_raise_on, new_records_on, add_on, remo
 use Rattle.definitions.proofs.TableLaws.{new-records-is}
 use Rattle.capability_engine.specs.PoolWords.{region_at}
 use Rattle.capability_engine.specs.PoolChain.{Seg, slots, records, Listed, Walkable, stored_at, All, SkipsBelow}
-use Rattle.capability_engine.specs.PoolOwn.{Heap, heap, IsHeap, free_of, Ready, Room, mine_of, records_of, Pass, Place}
+use Rattle.capability_engine.specs.PoolOwn.{Heap, heap, IsHeap, free_of, Room, mine_of, records_of, Pass, Place}
 use Rattle.capability_engine.specs.RegionPasses.{lowered, changed_one, Small, AllSmall, CanAddBetween, CanRemoveBetween}
 use Rattle.capability_engine.specs.declared.region.Skipped.{Skipped}
 use Rattle.capability_engine.specs.declared.region.RegionTracker.{RegionTracker}

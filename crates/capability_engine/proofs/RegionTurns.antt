@@ -8,7 +8,7 @@ use native.Mathlib.Decide.{dec_lt}
 use lib.ListN.{get_or, length, length-map}
 use lib.Dec.{ltb, leb}
 use borrow.Author.Tests.{lt-ltb, le-ltb, le-leb, lt-leb, eq-eqb, ne_eqb, eqb-true}
-use Rattle.definitions.specs.Tests.{◌=?◌, if◌then◌else◌}
+use Rattle.definitions.specs.Tests.{◌=?◌}
 use Rattle.definitions.specs.Values.{nothing, held, lower}
 use Rattle.definitions.specs.Regions.{region, within, splits, same, joins, join, joined, cut}
 use Rattle.definitions.specs.declared.addr.HostAddr.{HostAddr}

@@ -1,12 +1,12 @@
 -- A remove lowers in two passes: first what lies in the range, which frees slots, then the part of the region that reaches
 -- past the range's end. Both together are one pass over the list that is cut at both ends.
+use Rattle.std.specs.Prelude.{if◌then◌else◌}
 use Prim.Native.Nat.{ℕ, ◌≤◌, ◌<◌}
 use mathlib.Core.Path.{◌≡◌, refl, sym, ap, ap₂, ◌∙◌}
 use mathlib.Core.Bool.{Bool, true, false}
 use mathlib.Core.List.{List, [], ◌∷◌}
 use native.Mathlib.Omega.{arith}
 use borrow.Author.Tests.{le-leb, lt-leb}
-use Rattle.definitions.specs.Tests.{if◌then◌else◌}
 use Rattle.definitions.specs.Values.{held, lower}
 use Rattle.definitions.specs.Regions.{region, within, splits, cut}
 use Rattle.definitions.specs.declared.addr.HostAddr.{HostAddr}

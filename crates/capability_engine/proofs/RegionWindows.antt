@@ -1,12 +1,13 @@
 -- An add and a remove leave alone what ends below their range, and what begins above it: they are those of the part between.
+use Rattle.std.specs.Prelude.{if◌then◌else◌}
 use Prim.Native.Nat.{ℕ, ◌≤◌, ◌<◌}
 use mathlib.Core.Path.{◌≡◌, refl, sym, ap, ◌∙◌}
-use mathlib.Core.Bool.{Bool, true, false, true≢false, ◌&&◌}
+use mathlib.Core.Bool.{Bool, true, false}
 use mathlib.Core.List.{List, [], ◌∷◌, ◌++◌, append-nil, append_assoc}
 use native.Mathlib.Omega.{arith}
 use native.Mathlib.Decide.{ℕ_discrete}
 use borrow.Author.Tests.{le-ltb, lt-leb, leb-true, ltb-true}
-use Rattle.definitions.specs.Tests.{◌<?◌, ◌≤?◌, if◌then◌else◌, keep}
+use Rattle.definitions.specs.Tests.{◌<?◌, ◌≤?◌}
 use Rattle.definitions.specs.Values.{nothing, held, raise, lower}
 use Rattle.definitions.specs.Regions.{region, within, splits, joins, join, joined, cut}
 use Rattle.definitions.specs.declared.addr.HostAddr.{HostAddr}

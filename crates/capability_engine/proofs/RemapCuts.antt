@@ -1,4 +1,5 @@
 -- A range is cut out: the loop that asks, the answer, and the loop that puts in the parts that are moved up.
+use Rattle.std.specs.Prelude.{if◌then◌else◌}
 use Prim.Native.Nat.{ℕ, suc, ◌+◌, ◌<◌, ◌≤◌}
 use mathlib.Core.Path.{◌≡◌, refl, sym, ap, ◌∙◌}
 use mathlib.Core.List.{List, [], ◌∷◌, ◌++◌, append_assoc, append-nil}
@@ -6,8 +7,8 @@ use mathlib.Core.Bool.{Bool, true, false, not, ◌||◌}
 use native.Mathlib.Omega.{arith}
 use lib.ListN.{length, length-append}
 use borrow.Author.Tests.{leb-true, le-leb, lt-leb}
-use Rattle.definitions.specs.Tests.{◌<?◌, ◌≤?◌, ◌=?◌, if◌then◌else◌, bit, all, any, keep, each}
-use Rattle.definitions.specs.Segments.{in_order, rest, touched, span_whole, span_inside}
+use Rattle.definitions.specs.Tests.{◌<?◌, ◌≤?◌, ◌=?◌, bit, all, any, keep, each}
+use Rattle.definitions.specs.Segments.{in_order, rest, touched, span_whole}
 use Rattle.definitions.specs.Questions.{ask, accepted}
 use Rattle.definitions.proofs.Passed.{passed}
 use Rattle.definitions.proofs.SegmentLaws.{Good, AllGood, Singles}
@@ -29,7 +30,7 @@ use Rattle.capability_engine.specs.declared.remapper.Span.TheVariants.{Host, Gue
 use Rattle.capability_engine.specs.RemapHeld.{no_segment, Holds, Sound, Zip, behind, ahead}
 use Rattle.capability_engine.specs.RemapListing.{Some}
 use Rattle.capability_engine.specs.RemapAsking.{in_range, reach_of, left_of, rear_of, leaves, stays, moves, repeats, bad_for, last_of, none_asked, ask_step}
-use Rattle.capability_engine.specs.RemapAnswers.{Does, done, on_host, on_span, on_cut, cut_to, Builds, can_cut}
+use Rattle.capability_engine.specs.RemapAnswers.{Does, on_host, on_span, on_cut, cut_to, Builds, can_cut}
 use Rattle.capability_engine.proofs.RemapPlaces.{zip-small, zip_start, zip_first, zip-holds, zip-free, zip-many, ZipOver}
 use Rattle.capability_engine.proofs.RemapParts.{or-none, not_so, or-false, listed, left-listed, left-many, left-good, rear-listed, rear-many, rear-good}
 use Rattle.capability_engine.proofs.RemapWalks.{segment-at, next_of, Open, some-start, some_end, some-open, some-less, some_next, last_below, below-snoc, Between, between}

@@ -6,7 +6,7 @@ use mathlib.Core.Bool.{Bool, true, false, ◌||◌, true≢false}
 use native.Mathlib.Omega.{arith}
 use lib.ListN.{length}
 use borrow.Author.Tests.{leb-true, leb-false, ltb-true, eq-eqb, ne_eqb, eqb-true, eqb-false}
-use Rattle.definitions.specs.Tests.{◌≤?◌, ◌=?◌, if◌then◌else◌, fits, guest_up}
+use Rattle.definitions.specs.Tests.{◌≤?◌, ◌=?◌, fits, guest_up}
 use Rattle.definitions.specs.Segments.{place_all, unmapped_gpa}
 use Rattle.definitions.specs.Reckoning.{Compartment}
 use Rattle.definitions.specs.Questions.{ask, value_of, on_unmap_gpa}

@@ -1,15 +1,15 @@
 -- Laws of a linked list of slots, of the segments at the slots, and of a place in the list.
 use Prim.Native.Nat.{ℕ, zero, suc, ◌+◌, ◌<◌, ◌≤◌}
-use mathlib.Core.Path.{◌≡◌, refl, sym, ap, ap₂, ◌∙◌}
+use mathlib.Core.Path.{◌≡◌, subst, ◌≡◌, refl, sym, ap, ap₂, ◌∙◌}
 use mathlib.Core.List.{List, [], ◌∷◌, ◌++◌}
-use mathlib.Core.Bool.{Bool, true, false, not, cond}
+use mathlib.Core.Bool.{Bool, true, false, cond}
 use native.Mathlib.Omega.{arith}
 use native.Mathlib.Decide.{ℕ_discrete, dec_lt}
 use lib.ListN.{length, get_or, set, length-set}
 use lib.Seq.{get_or-set_same, get_or-set_other}
 use lib.Dec.{ltb}
 use borrow.Author.Tests.{lt-ltb, le-ltb, eq-eqb, ne_eqb}
-use Rattle.free_list.specs.Stack.{FreeListCall, free, up_from, after}
+use Rattle.free_list.specs.Stack.{FreeListCall, up_from, after}
 use Rattle.free_list.specs.Grown.{Grown}
 use Rattle.free_list.specs.declared.FreeList.{FreeList}
 use Rattle.free_list.proofs.Laws.{in-use-rest, none-used}
@@ -84,7 +84,7 @@ turned : (links : List ℕ) (h x : ℕ) (xs : List ℕ) (m to : ℕ) → last_or
     → Chain (set links (last_or x xs) to) h (x ∷ xs) to
 turned links h x [] m to l o c = (c.0, get_or-set_same links x to 0 l)
 turned links h x (y ∷ xs) m to l o c =
-    let n : x ≡ last_or y xs → ⊥ = λ q. omega (arith, rw (← q) at (occ-last y xs), o x, hit_same x) in
+    let n : x ≡ last_or y xs → ⊥ = λ q. omega (arith, subst (λ (z : ℕ). 1 ≤ occ z (y ∷ xs)) (sym q) (occ-last y xs), o x, hit_same x) in
     (c.0, rw (get_or-set_other links (last_or y xs) x to 0 n) (turned links (get_or links x 0) y xs m to l (λ z. omega (arith, o z)) c.1))
 
 pub join-chain : (links : List ℕ) (h : ℕ) (xs : List ℕ) (m to : ℕ) → length links ≡ 64 → ((z : ℕ) → 1 ≤ occ z xs → z < 64) → ((z : ℕ) → occ z xs ≤ 1)
@@ -92,7 +92,12 @@ pub join-chain : (links : List ℕ) (h : ℕ) (xs : List ℕ) (m to : ℕ) → l
 join-chain links h [] m to w b o c = refl
 join-chain links h (x ∷ xs) m to w b o c =
     let l : last_or x xs < 64 = b (last_or x xs) (occ-last x xs) in
-    rw (lt-ltb (last_or x xs) 64 l) (turned links h x xs m to (omega arith) o c)
+    let same : join_links links (last_or x xs) to ≡ set links (last_or x xs) to = rw (lt-ltb (last_or x xs) 64 l) in
+    let head : join_head h (last_or x xs) to ≡ h = rw (lt-ltb (last_or x xs) 64 l) in
+    subst
+    (λ (a : List ℕ). Chain a (join_head h (last_or x xs) to) (x ∷ xs) to)
+    (sym same)
+    (subst (λ (k : ℕ). Chain (set links (last_or x xs) to) k (x ∷ xs) to) (sym head) (turned links h x xs m to (omega arith) o c))
 
 -- and what is not in the first part stays
 pub join-frame : (links : List ℕ) (h : ℕ) (xs ys : List ℕ) (e to : ℕ) → ((z : ℕ) → 1 ≤ occ z xs → z < 64) → ((z : ℕ) → occ z xs + occ z ys ≤ 1)

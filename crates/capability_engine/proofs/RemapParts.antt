@@ -1,12 +1,13 @@
 -- What a range leaves of one segment, by the tests that the code makes.
-use Prim.Native.Nat.{ℕ, ◌+◌, ◌-◌, ◌<◌, ◌≤◌}
+use Rattle.std.specs.Prelude.{if◌then◌else◌}
+use Prim.Native.Nat.{ℕ, ◌+◌, ◌<◌, ◌≤◌}
 use mathlib.Core.Path.{◌≡◌, refl, sym, ap, ap₂, ◌∙◌}
 use mathlib.Core.List.{List, [], ◌∷◌}
 use mathlib.Core.Bool.{Bool, true, false, not, ◌&&◌, ◌||◌, true≢false}
 use native.Mathlib.Omega.{arith}
 use lib.ListN.{length}
 use borrow.Author.Tests.{lt-leb, leb-true, ltb-true, eqb-true}
-use Rattle.definitions.specs.Tests.{◌<?◌, ◌≤?◌, ◌=?◌, if◌then◌else◌, bit, host_up}
+use Rattle.definitions.specs.Tests.{◌<?◌, ◌≤?◌, ◌=?◌, bit, host_up}
 use Rattle.definitions.specs.Segments.{host_end, span_end, front, rest, host_touched, touched, span_whole}
 use Rattle.definitions.proofs.SegmentLaws.{Good, front-good, rest-good, Single, single-end}
 use Rattle.definitions.proofs.WalkLaws.{left_in, rear_in}

@@ -1,8 +1,8 @@
 -- A place in the list: how a walk starts, goes on and ends, and what the three changes do there.
 use Prim.Native.Nat.{ℕ, ◌+◌, ◌<◌, ◌≤◌}
-use mathlib.Core.Path.{◌≡◌, refl, sym, ap, ◌∙◌}
+use mathlib.Core.Path.{◌≡◌, subst, ◌≡◌, refl, sym, ap, ◌∙◌}
 use mathlib.Core.List.{List, [], ◌∷◌, ◌++◌, append_assoc}
-use mathlib.Core.Bool.{true, false, not}
+use mathlib.Core.Bool.{true, false}
 use native.Mathlib.Omega.{arith}
 use lib.ListN.{length, get_or, set, length-set, length-append}
 use lib.Seq.{get_or-set_same}
@@ -327,9 +327,9 @@ zip_in r prev at done ts s w room gs free2 f spec = go (after 64 o.calls) refl
         let fq : Chain L x (x ∷ qs) 64 =
         (refl, rw (get_or-set_same r.links x at 0 (omega arith)) (chain-frame r.links at qs 64 x at (omega (arith, once x, hit_same x)) w.here)) in
         let cp : Chain (join_links L prev x) (join_head r.head prev x) ps x =
-        rw w.last (join-chain L r.head ps at x (simp length-set sz) below (λ z. omega (arith, once z)) fp) in
+        subst (λ (p : ℕ). Chain (join_links L p x) (join_head r.head p x) ps x) (sym w.last) (join-chain L r.head ps at x (simp length-set sz) below (λ z. omega (arith, once z)) fp) in
         let cq : Chain (join_links L prev x) x (x ∷ qs) 64 =
-        rw w.last (join-frame L x ps (x ∷ qs) 64 x below (λ z. omega (arith, once z)) fq) in
+        subst (λ (p : ℕ). Chain (join_links L p x) x (x ∷ qs) 64) (sym w.last) (join-frame L x ps (x ∷ qs) 64 x below (λ z. omega (arith, once z)) fq) in
         let rp : segs_at (set r.segments x s) ps ≡ segs_at r.segments ps = segs-frame r.segments ps x s (omega (arith, once x, hit_same x)) in
         let rq : segs_at (set r.segments x s) qs ≡ segs_at r.segments qs = segs-frame r.segments qs x s (omega (arith, once x, hit_same x)) in
         let rs : get_or (set r.segments x s) x no_segment ≡ s = get_or-set_same r.segments x s no_segment (omega arith) in (

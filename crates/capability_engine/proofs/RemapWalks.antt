@@ -1,4 +1,5 @@
 -- The loops: what each keeps, how it starts, goes on and ends.
+use Rattle.std.specs.Prelude.{if◌then◌else◌}
 use Prim.Native.Nat.{ℕ, suc, ◌+◌, ◌<◌, ◌≤◌}
 use mathlib.Core.Path.{◌≡◌, refl, sym, ap, ◌∙◌, subst}
 use mathlib.Core.List.{List, [], ◌∷◌, ◌++◌, append_assoc, append-nil}
@@ -7,7 +8,7 @@ use native.Mathlib.Omega.{arith}
 use lib.ListN.{length, get_or, length-append}
 use borrow.Author.Tests.{le-leb, lt-leb, ltb-true, ltb-false, le-ltb}
 use Rattle.free_list.specs.declared.FreeList.{FreeList}
-use Rattle.definitions.specs.Tests.{◌<?◌, if◌then◌else◌, any, each}
+use Rattle.definitions.specs.Tests.{◌<?◌, any, each}
 use Rattle.definitions.specs.Segments.{touched, place}
 use Rattle.definitions.proofs.SegmentLaws.{Good}
 use Rattle.definitions.proofs.WalkLaws.{Every, every_more, Rising}
@@ -20,7 +21,7 @@ use Rattle.capability_engine.specs.RemapHeld.{Chain, no_segment, segs_at, Holds,
 use Rattle.capability_engine.specs.RemapAsking.{reach_of, left_of, leaves, bad_for}
 use Rattle.capability_engine.specs.RemapListing.{Some}
 use Rattle.capability_engine.proofs.RemapParts.{or-false, listed, left-listed, left-good}
-use Rattle.capability_engine.proofs.RemapPlaces.{zip-at, zip_start, zip-ahead, zip_end, zip-open, zip-holds, zip-skip, zip-as, zip-many, zip-back, ZipOver}
+use Rattle.capability_engine.proofs.RemapPlaces.{zip-at, zip_start, zip-ahead, zip_end, zip-open, zip-skip, zip-as, zip-many, zip-back, ZipOver}
 
 abbrev pub segment-at : Remapper → ℕ → Segment
 segment-at r at = get_or r.segments at no_segment

@@ -1,5 +1,5 @@
 -- A piece of a script, step by step.
-use Prim.Native.Nat.{ℕ, zero, suc, ◌+◌, ◌-◌, ◌*◌, ◌<◌, ◌≤◌, min}
+use Prim.Native.Nat.{ℕ, ◌+◌, ◌-◌, ◌*◌, ◌<◌, ◌≤◌, min}
 use mathlib.Core.Path.{◌≡◌, refl, sym, ap, ◌∙◌}
 use mathlib.Core.Bool.{Bool, true, false, true≢false, not}
 use mathlib.Core.List.{List, [], ◌∷◌, ◌++◌, append_assoc}
@@ -35,7 +35,7 @@ use Rattle.capability_engine.specs.declared.script.Task.TheVariants.{Tell, Regio
 use Rattle.capability_engine.specs.PoolOwn.{heap}
 use Rattle.capability_engine.specs.RegionAsks.{Allotted}
 use Rattle.capability_engine.specs.RemapHeld.{IsHeld, IsSound}
-use Rattle.capability_engine.specs.CompartmentGrown.{Holds, allowances_of, trackers_of, Grown, IsGrown, Sized}
+use Rattle.capability_engine.specs.CompartmentGrown.{allowances_of, trackers_of, Grown, IsGrown, Sized}
 use Rattle.capability_engine.specs.CompartmentSteps.{on_regions, on_segments, no_tracker, OnRegions, OnSegments, OnAllow}
 use Rattle.capability_engine.specs.ScriptFeed.{owed, due, comes, Feeds}
 use Rattle.capability_engine.specs.ScriptSteps.{task_prints, task_leaves, Hears, bytes_of, Adds, told, Prints, lines_on, Shows, started, Goes}

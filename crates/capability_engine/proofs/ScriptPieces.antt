@@ -1,16 +1,16 @@
 -- The texts that are written for the pieces of a script, joined, are its output.
 use Prim.Native.Nat.{ℕ, ◌+◌, ◌≤◌}
-use mathlib.Core.Path.{◌≡◌, refl, sym, ap, ◌∙◌}
-use mathlib.Core.List.{List, [], ◌∷◌, ◌++◌, append-nil}
+use mathlib.Core.Path.{◌≡◌, sym, ap, ◌∙◌}
+use mathlib.Core.List.{List, ◌++◌}
 use native.Mathlib.Omega.{arith}
 use lib.ListN.{length, take, drop}
-use lib.Seq.{sets, sets-eq, take-append_seam}
+use lib.Seq.{sets-eq, take-append_seam}
 use Rattle.definitions.specs.Calls.{start, after, after_from}
 use Rattle.definitions.specs.Script.{heading, output_of}
 use Rattle.definitions.specs.declared.call.Call.{Call}
 use Rattle.capability_engine.specs.declared.script.Script.{Script}
 use Rattle.capability_engine.specs.declared.script.Fed.{Fed}
-use Rattle.capability_engine.specs.ScriptFeed.{due, begun, Feeds}
+use Rattle.capability_engine.specs.ScriptFeed.{due, Feeds}
 use Rattle.capability_engine.specs.ScriptPieces.{joined, Writes, fed, arrives, ends, done, Statement}
 use Rattle.capability_engine.proofs.StreamLists.{each_append}
 use Rattle.capability_engine.proofs.ScriptWhole.{due-last, due-done, due-begun}

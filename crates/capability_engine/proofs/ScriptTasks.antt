@@ -1,4 +1,5 @@
 -- What a line asks for: each line of the form is one task, which prints what the line prints and leaves what it leaves.
+use Rattle.std.specs.Prelude.{if◌then◌else◌}
 use Prim.Native.Nat.{ℕ, ◌<◌, ◌≤◌}
 use mathlib.Core.Path.{◌≡◌, refl, sym, ap, ◌∙◌}
 use mathlib.Core.Bool.{Bool, true, false}
@@ -6,12 +7,11 @@ use mathlib.Core.List.{List, [], ◌∷◌}
 use native.Mathlib.Omega.{arith}
 use native.Mathlib.Decide.{dec_lt}
 use lib.ListN.{replicate}
-use types.Run.{OneOf, miss}
-use denote.Enum.Declared.{tag_of}
 use borrow.Author.Tests.{le-leb, lt-leb, le-ltb}
-use Rattle.definitions.specs.contracts.call.Call.{the_type}
+use Rattle.definitions.specs.declared.addr.HostAddr.{HostAddr}
+use Rattle.definitions.specs.declared.addr.GuestAddr.{GuestAddr}
 use Rattle.definitions.proofs.Reckoned.{next-refused, next-read}
-use Rattle.definitions.specs.Tests.{◌=?◌, if◌then◌else◌}
+use Rattle.definitions.specs.Tests.{◌=?◌}
 use Rattle.definitions.specs.Reckoning.{compartment_of, reckon}
 use Rattle.definitions.specs.Questions.{ask, accepted}
 use Rattle.definitions.specs.Calls.{State, answer, allowed}
@@ -37,19 +37,20 @@ module _ (l : Said) (c : Call) (e : l ≡ said.Call c) (k : ℕ) (q : k ≡ comp
   pub task-on : (f : ℕ → Task) → k < 8 → task_in c ≡ f (compartment_of c) → f k ≡ task_of l
   task-on f h t = rw e (simp (lt-leb 8 (compartment_of c) (rw q at h)) (ap f q ∙ sym t))
 
-pub task-other : (c : Call) → OneOf (0 ∷ 1 ∷ 2 ∷ 3 ∷ 7 ∷ 8 ∷ []) (tag_of the_type c) → task_in c ≡ Regions (compartment_of c) c
+pub task-other : (c : Call) → ((k : ℕ) (p : HostAddr) (g : GuestAddr) (n t : ℕ) → c ≡ Map k p g n t → ⊥) → ((k : ℕ) (p : HostAddr) (n : ℕ) → c ≡ Unmap k p n → ⊥)
+    → ((k : ℕ) (g : GuestAddr) (n : ℕ) → c ≡ UnmapGpa k g n → ⊥) → ((k : ℕ) → c ≡ Mappings k → ⊥) → ((k n : ℕ) → c ≡ Allow k n → ⊥) → task_in c ≡ Regions (compartment_of c) c
 unfolding compartment_of
-task-other (Add k a e r) h = refl
-task-other (Remove k a e r) h = refl
-task-other (Refcount k a e) h = refl
-task-other (Overlaps k g n) h = refl
-task-other (Permissions k i n) h = refl
-task-other (Remap k i n) h = refl
-task-other (Map k p g n t) h = absurd (miss (0 ∷ 1 ∷ 2 ∷ 3 ∷ 7 ∷ 8 ∷ []) 4 tt h)
-task-other (Unmap k p n) h = absurd (miss (0 ∷ 1 ∷ 2 ∷ 3 ∷ 7 ∷ 8 ∷ []) 5 tt h)
-task-other (UnmapGpa k g n) h = absurd (miss (0 ∷ 1 ∷ 2 ∷ 3 ∷ 7 ∷ 8 ∷ []) 6 tt h)
-task-other (Mappings k) h = absurd (miss (0 ∷ 1 ∷ 2 ∷ 3 ∷ 7 ∷ 8 ∷ []) 9 tt h)
-task-other (Allow k n) h = absurd (miss (0 ∷ 1 ∷ 2 ∷ 3 ∷ 7 ∷ 8 ∷ []) 10 tt h)
+task-other (Add k a e r) h i j l m = refl
+task-other (Remove k a e r) h i j l m = refl
+task-other (Refcount k a e) h i j l m = refl
+task-other (Overlaps k g n) h i j l m = refl
+task-other (Permissions k q n) h i j l m = refl
+task-other (Remap k q n) h i j l m = refl
+task-other (Map k p g n t) h i j l m = absurd (h k p g n t refl)
+task-other (Unmap k p n) h i j l m = absurd (i k p n refl)
+task-other (UnmapGpa k g n) h i j l m = absurd (j k g n refl)
+task-other (Mappings k) h i j l m = absurd (l k refl)
+task-other (Allow k n) h i j l m = absurd (m k n refl)
 
 -- ---- what lines say
 

@@ -1,5 +1,5 @@
 -- A whole script, fed at one go and its last line ended: what is written is its output, as many whole lines as fit.
-use Prim.Native.Nat.{ℕ, suc, ◌+◌, ◌-◌, ◌≤◌, ◌<◌}
+use Prim.Native.Nat.{ℕ, suc, ◌+◌, ◌-◌, ◌≤◌}
 use mathlib.Core.Path.{◌≡◌, refl, sym, ap, subst, ◌∙◌}
 use mathlib.Core.Bool.{Bool, true, false}
 use mathlib.Core.List.{List, [], ◌∷◌, ◌++◌, append-nil, append_assoc}
@@ -12,7 +12,6 @@ use Rattle.definitions.specs.Calls.{State, start, after, after_from}
 use Rattle.definitions.specs.Script.{line_of, lines_of, answer_line, printed, output_from, heading, output_of, whole_lines}
 use Rattle.definitions.specs.declared.answer.Refusal.TheVariants.{Malformed}
 use Rattle.definitions.specs.declared.answer.Answer.TheVariants.{Refused}
-use Rattle.definitions.specs.declared.call.Call.{Call}
 use Rattle.columns.proofs.Room.{sets_behind}
 use Rattle.lines.specs.Lines.{lines_with}
 use Rattle.lines.proofs.Pieces.{lines-own}

@@ -1,4 +1,5 @@
 -- One step of the flow. Assumes nothing.
+use Rattle.std.specs.Prelude.{if◌then◌else◌}
 use Prim.Native.Nat.{ℕ, ◌+◌, ◌*◌, ◌≤◌, ◌<◌, min, max}
 use mathlib.Core.Path.{◌≡◌, refl, sym, ap, ◌∙◌}
 use mathlib.Core.Bool.{Bool, true, false}
@@ -6,7 +7,7 @@ use mathlib.Core.List.{List, [], ◌∷◌, ◌++◌, map, append-nil, append_as
 use native.Mathlib.Omega.{arith}
 use lib.ListN.{length, length-append, length-map}
 use borrow.Author.Tests.{lt-ltb, le-ltb}
-use Rattle.definitions.specs.Tests.{◌<?◌, if◌then◌else◌, bit, host, host_up, each}
+use Rattle.definitions.specs.Tests.{◌<?◌, bit, host, host_up, each}
 use Rattle.definitions.proofs.Bools.{and-false}
 use Rattle.definitions.proofs.RegionLaws.{ordered-from}
 use Rattle.definitions.specs.Regions.{region, meets}
@@ -16,7 +17,7 @@ use Rattle.definitions.specs.Stream.{segment_yields, shared_part, identity}
 use Rattle.definitions.specs.declared.region.Region.{Region}
 use Rattle.definitions.specs.declared.remapper.Segment.{Segment}
 use Rattle.definitions.specs.declared.remapper.Mapping.{Mapping}
-use Rattle.capability_engine.specs.StreamFlow.{part, flow, Rising, lies, left}
+use Rattle.capability_engine.specs.StreamFlow.{part, flow, Rising, lies}
 use Rattle.capability_engine.proofs.StreamLists.{map-append, beside}
 use Rattle.capability_engine.proofs.StreamMerged.{rising-from}
 

@@ -1,4 +1,5 @@
 -- What the small functions compute. Assumes nothing.
+use Rattle.std.specs.Prelude.{if◌then◌else◌}
 use Prim.Native.Nat.{ℕ, ◌+◌, ◌-◌, ◌*◌, ◌≤◌, ◌<◌, min, max}
 use mathlib.Core.Path.{◌≡◌, ap}
 use mathlib.Core.Bool.{false}
@@ -7,7 +8,7 @@ use native.Mathlib.Omega.{arith}
 use lib.ListN.{get_or}
 use lib.Dec.{ltb}
 use borrow.Author.Tests.{lt-ltb, le-ltb, eq-eqb, ne_eqb}
-use Rattle.definitions.specs.Tests.{◌=?◌, if◌then◌else◌, host, host_up, guest_up}
+use Rattle.definitions.specs.Tests.{◌=?◌, host, host_up, guest_up}
 use Rattle.definitions.specs.Regions.{region}
 use Rattle.definitions.specs.Segments.{host_end}
 use Rattle.definitions.specs.Stream.{shared_part, identity}

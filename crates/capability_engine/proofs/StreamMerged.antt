@@ -1,4 +1,5 @@
 -- The definition's stream is the flow from address 0 on. Assumes nothing.
+use Rattle.std.specs.Prelude.{if◌then◌else◌}
 use Prim.Native.Nat.{ℕ, ◌+◌, ◌^◌, ◌≤◌, ◌<◌, min, max}
 use mathlib.Core.Path.{◌≡◌, refl, sym, ap, ap₂, ◌∙◌}
 use mathlib.Core.Bool.{Bool, true, false}
@@ -6,7 +7,7 @@ use mathlib.Core.List.{List, [], ◌∷◌, ◌++◌, map, append-nil, append_as
 use native.Mathlib.Omega.{arith}
 use borrow.Author.Tests.{ltb-true, ltb-false, leb-true, lt-ltb, le-ltb, le-leb, lt-leb}
 use Rattle.definitions.proofs.Bools.{both}
-use Rattle.definitions.specs.Tests.{◌<?◌, ◌≤?◌, if◌then◌else◌, host, host_up, keep, each, all}
+use Rattle.definitions.specs.Tests.{◌<?◌, ◌≤?◌, host, host_up, keep, each, all}
 use Rattle.definitions.specs.Regions.{region}
 use Rattle.definitions.proofs.Lists.{Ordered, AllHeld, below, above, without, left_over}
 use Rattle.definitions.proofs.RunLaws.{EndBy}

@@ -21,7 +21,7 @@ use Rattle.capability_engine.specs.PoolChain.{stored_at}
 use Rattle.capability_engine.specs.declared.stream.RemapCursor.{RemapCursor}
 use Rattle.capability_engine.specs.declared.stream.Turn.TheVariants.{Yields}
 use Rattle.capability_engine.specs.PoolWords.{region_at}
-use Rattle.capability_engine.specs.StreamFlow.{part, flow, Rising, lies}
+use Rattle.capability_engine.specs.StreamFlow.{part, flow, Rising}
 use Rattle.capability_engine.specs.SegmentWords.{segment_at, segments_from}
 use Rattle.capability_engine.specs.StreamCursor.{Table, Met, goes_on, begun, rest, remaining, Ready, to_go, Turned, passed, begins}
 use Rattle.capability_engine.proofs.StreamFlows.{yields-head, yields_none, flow-none, flow-pass, flow-same, flow-begin, flow-part, lies-most}

@@ -1,4 +1,5 @@
 -- The moves, in the terms of the code. Assumes nothing.
+use Rattle.std.specs.Prelude.{if◌then◌else◌}
 use Prim.Native.Nat.{ℕ, ◌+◌, ◌-◌, ◌^◌, ◌≤◌, ◌<◌, min, max}
 use mathlib.Core.Path.{◌≡◌, refl, ap, ◌∙◌}
 use mathlib.Core.Bool.{Bool, true, false}
@@ -8,7 +9,7 @@ use native.Mathlib.Omega.{arith}
 use native.Mathlib.Decide.{dec_lt}
 use lib.ListN.{get_or}
 use borrow.Author.Tests.{ltb-true, ltb-false, eq-eqb, ne_eqb}
-use Rattle.definitions.specs.Tests.{◌<?◌, if◌then◌else◌, host}
+use Rattle.definitions.specs.Tests.{◌<?◌, host}
 use Rattle.definitions.specs.Regions.{region}
 use Rattle.definitions.specs.Stream.{identity}
 use Rattle.definitions.proofs.Lists.{above}

@@ -40,7 +40,7 @@ use Rattle.capability_engine.specs.StreamCursor.{Table, Ready, remaining}
 use Rattle.capability_engine.specs.CompartmentGrown.{page_left}
 use Rattle.capability_engine.specs.CompartmentSteps.{no_tracker}
 use Rattle.capability_engine.specs.WholeStream as said
-use Rattle.capability_engine.specs.WholeStream.{Memory, GrownBy, Ran, Page, Paged, ByPages, Copies, Begins, Stepped, ByCursor, StreamIs, steps_of, Statement, SameFor, Independent, lent, Loan}
+use Rattle.capability_engine.specs.WholeStream.{Memory, GrownBy, Ran, Page, Paged, ByPages, Copies, Begins, Stepped, ByCursor, StreamIs, steps_of, Statement, SameFor, Independent, lent, Loan, Plans, SamePlans}
 use Rattle.capability_engine.proofs.StreamLists.{map-append, each_append}
 use Rattle.definitions.proofs.Fills.{five, map-drop}
 use Rattle.capability_engine.proofs.CompartmentFacts.{held, whole, stored_is, table}
@@ -89,7 +89,6 @@ told (said.bundled {m} {m'} {heard} {k} {ns} {a} r p) =
     let t = told r in
     let q = p (calls_of (steps_of heard)) t.grown in
     told_more m' heard (bundle k ns) a t.same q.answered q.grown
-told (said.planned r p) = told r
 
 -- the numbers of groups, in order
 abbrev pub flat : List (List ℕ) → List ℕ
@@ -274,11 +273,6 @@ module _ (k : ℕ) (l : k < 8) (m n : Memory) (xs ys : List (Step × Bool)) (r :
     changes = λ call m' n' a b o s p p'. (p calls gm).answered ∙ alike (single call) o s ∙ sym (p' calls' gn).answered;
     asks = λ call a b o s p p'. (p calls gm).answered ∙ alike (single call) o s ∙ sym (p' calls' gn).answered;
     bundles = λ ns m' n' a b s p p'. (p calls gm).answered ∙ alike (bundle k ns) (eq-eqb k k refl) s ∙ sym (p' calls' gn).answered;
-    plans = λ ns from out out' out'' a b s p p'.
-        let may : allowance (after calls) k ≡ allowance (after calls') k = ap (λ t. allowance t k) (sym by-xs) ∙ s ∙ ap (λ t. allowance t k) by-ys in (
-          (p calls gm).answered ∙ same-plan (after calls) (after calls') k may ns from (length out) ∙ sym (p' calls' gn).answered,
-          (p calls gm).slice ∙ same-page (after calls) (after calls') k may ns from out ∙ sym (p' calls' gn).slice,
-        );
     regions =
         stored_is m.words m.next m.links m.gens m.tables calls gm k l
         ∙ ap (λ (c : Compartment). regions c.values) left
@@ -292,6 +286,29 @@ module _ (k : ℕ) (l : k < 8) (m n : Memory) (xs ys : List (Step × Bool)) (r :
     by_pages = λ got got' p p'. by-pages m calls gm k l p ∙ ap (λ c. flat (stream_groups c)) left ∙ sym (by-pages n calls' gn k l p');
     by_cursor = λ found found' p p'. by-cursor m calls gm k l p ∙ ap stream_of left ∙ sym (by-cursor n calls' gn k l p');
   }
+
+-- and a page of a plan is the same wherever the allowance is
+module _ (k : ℕ) (m n : Memory) (xs ys : List (Step × Bool)) (r : Ran m xs) (q : Ran n ys)
+    (s : allowance (done (steps_of xs)) k ≡ allowance (done (steps_of ys)) k) where
+  one-allowance : allowance (after (calls_of (steps_of xs))) k ≡ allowance (after (calls_of (steps_of ys))) k
+  one-allowance =
+      ap (λ t. allowance t k) (sym (run-leaves-its-calls (steps_of xs))) ∙ s
+      ∙ ap (λ t. allowance t k) (run-leaves-its-calls (steps_of ys))
+
+  same-answer-of-plans : (ns : List ℕ) (from : ℕ) (out out' out'' : List ℕ) (a b : Answer)
+      → Plans k ns from m out out' a → Plans k ns from n out out'' b → (a ≡ b) × (out' ≡ out'')
+  same-answer-of-plans ns from out out' out'' a b p p' = (
+    (p (calls_of (steps_of xs)) (told r).grown).answered
+        ∙ same-plan (after (calls_of (steps_of xs))) (after (calls_of (steps_of ys))) k one-allowance ns from (length out)
+        ∙ sym (p' (calls_of (steps_of ys)) (told q).grown).answered,
+    (p (calls_of (steps_of xs)) (told r).grown).slice
+        ∙ same-page (after (calls_of (steps_of xs))) (after (calls_of (steps_of ys))) k one-allowance ns from out
+        ∙ sym (p' (calls_of (steps_of ys)) (told q).grown).slice,
+  )
+
+pub same_plans : SamePlans
+same_plans k m n xs ys ns from out out' out'' a b r q s p p' =
+    same-answer-of-plans k m n xs ys r q s ns from out out' out'' a b p p'
 
 -- two runs that agree on what is compartment k's leave it the same
 pub independent_streams : Independent

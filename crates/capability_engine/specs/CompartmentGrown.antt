@@ -1,10 +1,10 @@
 -- How the pool, the eight trackers and the eight remappers hold what calls made, and what each public call promises.
-use Rattle.std.specs.Prelude.{ℕ, ◌+◌, ◌<◌, ◌≡◌, true, false, List, [], ◌∷◌, ◌++◌, map, length, replicate}
+use Rattle.std.specs.Prelude.{ℕ, ◌+◌, ◌<◌, ◌≡◌, true, false, List, [], ◌∷◌, ◌++◌, map, length, replicate, if◌then◌else◌}
 use Rattle.gen_arena.specs.Grown.{fresh}
 use Rattle.gen_arena.specs.declared.GenArena.{GenArena}
 use Rattle.definitions.specs.Regions.{regions}
 use Rattle.definitions.specs.Reckoning.{Compartment, compartment_of}
-use Rattle.definitions.specs.Tests.{◌<?◌, if◌then◌else◌}
+use Rattle.definitions.specs.Tests.{◌<?◌}
 use Rattle.definitions.specs.Pages.{page, filled}
 use Rattle.definitions.specs.Questions.{ask, accepted, in_use}
 use Rattle.definitions.specs.Calls.{start, compartment, answer, after}

@@ -1,7 +1,7 @@
 -- Links. `nx` is the list of next-slot numbers, of 1,025 words: 1,024 stands for none, and word 1,024 holds the first slot
 -- of the list that is worked on, so that list is a ring through 1,024.
-use Rattle.std.specs.Prelude.{ℕ, zero, suc, ◌+◌, ◌≤◌, ◌<◌, ◌≡◌, List, [], ◌∷◌, ◌++◌, map, get_or, length, ltb, eqb}
-use Rattle.definitions.specs.Tests.{if◌then◌else◌, bit}
+use Rattle.std.specs.Prelude.{ℕ, zero, suc, ◌+◌, ◌≤◌, ◌<◌, ◌≡◌, List, [], ◌∷◌, ◌++◌, map, get_or, length, ltb, eqb, if◌then◌else◌}
+use Rattle.definitions.specs.Tests.{bit}
 use Rattle.definitions.specs.declared.addr.HostAddr.{HostAddr}
 use Rattle.definitions.specs.declared.region.Region.{Region}
 use Rattle.capability_engine.specs.PoolWords.{region_at, pool_len}

@@ -1,6 +1,6 @@
 -- What one walk over a list of regions finds out before an add or a remove changes anything: a step for each region.
-use Rattle.std.specs.Prelude.{ℕ, ◌+◌, ◌^◌, ◌-◌, ◌≤◌, ◌<◌, max, ◌≡◌, Bool, true, false, not, ◌&&◌, ◌||◌, List, [], ◌∷◌, get_or, set, length}
-use Rattle.definitions.specs.Tests.{◌<?◌, ◌≤?◌, ◌=?◌, if◌then◌else◌, bit, all}
+use Rattle.std.specs.Prelude.{ℕ, ◌+◌, ◌^◌, ◌-◌, ◌≤◌, ◌<◌, max, ◌≡◌, Bool, true, false, not, ◌&&◌, ◌||◌, List, [], ◌∷◌, get_or, set, length, if◌then◌else◌}
+use Rattle.definitions.specs.Tests.{◌<?◌, ◌≤?◌, ◌=?◌, bit, all}
 use Rattle.definitions.specs.Rights.{Right, READ, WRITE, EXEC, SUPER, UNCACHEABLE, DEVICE, named}
 use Rattle.definitions.specs.Regions.{meets, splits, regions}
 use Rattle.definitions.specs.Questions.{every_named, ask, accepted}

@@ -1,6 +1,6 @@
 -- What the passes of a remove make of a list of regions, and the tests of a cut.
-use Rattle.std.specs.Prelude.{ℕ, ◌≤◌, ◌<◌, List, [], ◌∷◌}
-use Rattle.definitions.specs.Tests.{if◌then◌else◌, keep}
+use Rattle.std.specs.Prelude.{ℕ, ◌≤◌, ◌<◌, List, [], ◌∷◌, if◌then◌else◌}
+use Rattle.definitions.specs.Tests.{keep}
 use Rattle.definitions.specs.Rights.{Right, count_of}
 use Rattle.definitions.specs.Values.{held, raise, lower}
 use Rattle.definitions.specs.Regions.{region, within, splits, cut}

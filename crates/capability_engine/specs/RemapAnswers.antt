@@ -1,7 +1,7 @@
 -- What each call ensures: the definitions' answer, the list that they leave where it is accepted, and where it is refused
 -- the very struct that went in. The first questions come to a change, and the change asks the rest and does it.
-use Rattle.std.specs.Prelude.{ℕ, ◌+◌, ◌*◌, ◌≤◌, ◌≡◌, List, [], ◌∷◌, Bool, true, false, not, ◌&&◌, ◌||◌, length}
-use Rattle.definitions.specs.Tests.{◌<?◌, ◌≤?◌, ◌=?◌, if◌then◌else◌, fits, all, any, keep, each}
+use Rattle.std.specs.Prelude.{ℕ, ◌+◌, ◌*◌, ◌≤◌, ◌≡◌, List, [], ◌∷◌, Bool, true, false, not, ◌&&◌, ◌||◌, length, if◌then◌else◌}
+use Rattle.definitions.specs.Tests.{◌<?◌, ◌≤?◌, ◌=?◌, fits, all, any, keep, each}
 use Rattle.definitions.proofs.SegmentLaws.{Good}
 use Rattle.definitions.specs.Segments.{overlaps, is_identity, mapped, host_parts, unmapped, touched, span_whole, span_inside, span_parts, place_all, unmapped_gpa}
 use Rattle.definitions.specs.Reckoning.{Compartment}

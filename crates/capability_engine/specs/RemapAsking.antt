@@ -1,7 +1,7 @@
 -- What the unmaps want to know of the list, and what one segment becomes. Both kinds of range in one.
-use Rattle.std.specs.Prelude.{ℕ, ◌+◌, ◌-◌, ◌<◌, List, [], ◌∷◌, Bool, true, false, not, ◌&&◌, ◌||◌, length}
-use Rattle.definitions.specs.Tests.{◌<?◌, ◌≤?◌, ◌=?◌, if◌then◌else◌}
-use Rattle.definitions.specs.Segments.{front, rest, host_touched, touched, span_whole}
+use Rattle.std.specs.Prelude.{◌+◌, ◌-◌, ◌<◌, List, [], ◌∷◌, Bool, false, not, ◌&&◌, ◌||◌, length, if◌then◌else◌}
+use Rattle.definitions.specs.Tests.{◌<?◌, ◌≤?◌, ◌=?◌}
+use Rattle.definitions.specs.Segments.{front, host_touched, touched, span_whole}
 use Rattle.definitions.proofs.WalkLaws.{left_in, rear_in}
 use Rattle.definitions.specs.declared.addr.GuestAddr.{GuestAddr}
 use Rattle.definitions.specs.declared.remapper.Segment.{Segment}

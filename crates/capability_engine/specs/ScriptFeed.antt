@@ -1,13 +1,12 @@
 -- A script in pieces: what is still to be printed, and what a piece of it promises.
-use Rattle.std.specs.Prelude.{ℕ, ◌+◌, ◌-◌, ◌≤◌, ◌≡◌, true, false, List, [], ◌++◌, length, take, drop, replicate}
+use Rattle.std.specs.Prelude.{ℕ, ◌+◌, ◌-◌, ◌≤◌, ◌≡◌, true, false, List, [], ◌++◌, length, take, drop, replicate, if◌then◌else◌}
 use Rattle.std.proofs.lemmas.List.Edits.{sets}
-use Rattle.definitions.specs.Tests.{◌<?◌, if◌then◌else◌, each}
+use Rattle.definitions.specs.Tests.{◌<?◌, each}
 use Rattle.definitions.specs.Calls.{State, after}
 use Rattle.definitions.specs.Script.{call, printed, lines_of, output_from, left_from, whole_lines}
 use Rattle.definitions.specs.declared.call.Call.{Call}
 use Rattle.definitions.specs.declared.call.Call.TheVariants.{Mappings}
 use Rattle.lines.specs.Lines.{lines_with}
-use Rattle.capability_engine.specs.declared.script.Progress.{Progress}
 use Rattle.capability_engine.specs.declared.script.Script.{Script}
 use Rattle.capability_engine.specs.declared.script.Fed.{Fed}
 use Rattle.capability_engine.specs.declared.compartments.Tables.{Tables}

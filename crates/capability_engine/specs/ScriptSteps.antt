@@ -1,7 +1,7 @@
 -- The steps of a script: what a line asks for, what a step writes, and how far a piece has come.
-use Rattle.std.specs.Prelude.{ℕ, ◌+◌, ◌-◌, ◌<◌, ◌≤◌, min, ◌≡◌, Bool, true, false, List, [], ◌∷◌, ◌++◌, map, length, take, drop}
+use Rattle.std.specs.Prelude.{ℕ, ◌+◌, ◌-◌, ◌<◌, ◌≤◌, min, ◌≡◌, Bool, true, false, List, [], ◌∷◌, ◌++◌, map, length, take, drop, if◌then◌else◌}
 use Rattle.std.proofs.lemmas.List.Edits.{sets}
-use Rattle.definitions.specs.Tests.{◌≤?◌, if◌then◌else◌, each}
+use Rattle.definitions.specs.Tests.{◌≤?◌, each}
 use Rattle.definitions.specs.Reckoning.{Compartment, compartment_of}
 use Rattle.definitions.specs.Regions.{regions}
 use Rattle.definitions.specs.Calls.{State, stream_of, answer, next}

@@ -1,6 +1,6 @@
 -- What a cursor stands for, and what a turn of it does. Assumes nothing.
-use Rattle.std.specs.Prelude.{ℕ, ◌+◌, ◌-◌, ◌*◌, ◌^◌, ◌≤◌, ◌<◌, min, max, ◌≡◌, Bool, true, ◌&&◌, ◌⊎◌, List, [], ◌∷◌, ◌++◌, length}
-use Rattle.definitions.specs.Tests.{◌<?◌, ◌=?◌, if◌then◌else◌, host}
+use Rattle.std.specs.Prelude.{ℕ, ◌+◌, ◌-◌, ◌*◌, ◌^◌, ◌≤◌, ◌<◌, min, max, ◌≡◌, Bool, true, ◌&&◌, ◌⊎◌, List, [], ◌∷◌, ◌++◌, length, if◌then◌else◌}
+use Rattle.definitions.specs.Tests.{◌<?◌, ◌=?◌, host}
 use Rattle.definitions.specs.Regions.{region}
 use Rattle.definitions.specs.Segments.{host_end, in_order}
 use Rattle.definitions.specs.Stream.{segment_yields, identity}

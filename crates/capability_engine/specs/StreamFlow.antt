@@ -1,6 +1,6 @@
 -- The stream from an address on, by the segments. Assumes nothing.
-use Rattle.std.specs.Prelude.{ℕ, ◌+◌, ◌*◌, ◌≤◌, ◌<◌, min, max, List, [], ◌∷◌, ◌++◌, map, length}
-use Rattle.definitions.specs.Tests.{◌<?◌, if◌then◌else◌, bit, host, each}
+use Rattle.std.specs.Prelude.{ℕ, ◌+◌, ◌*◌, ◌≤◌, ◌<◌, min, max, List, [], ◌∷◌, ◌++◌, map, length, if◌then◌else◌}
+use Rattle.definitions.specs.Tests.{◌<?◌, bit, host, each}
 use Rattle.definitions.specs.Regions.{region}
 use Rattle.definitions.specs.Segments.{host_end}
 use Rattle.definitions.specs.Stream.{segment_yields, identity}

@@ -1,7 +1,7 @@
 -- Demand 3 of document 01, "The reckoning", whole: `Statement`, which proofs/WholeStream.antt proves as `whole_stream`; and, at
 -- the end, what document 02 says of two runs: order 4, `Independent`, proved as `independent_streams`, order 11, `Loan`, proved as
--- `handed_back`, and order 13, `Layout` and `NoLayout`, proved as `yields_the_wish` and `no_script`. Nothing is assumed but what the
--- functions promise.
+-- `handed_back`, and order 13, `SamePlans`, `Layout` and `NoLayout`, proved as `same_plans`, `yields_the_wish` and `no_script`.
+-- Nothing is assumed but what the functions promise.
 use Rattle.std.specs.Prelude.{ℕ, ◌+◌, ◌*◌, ◌/◌, ◌^◌, ◌<◌, ◌≤◌, ◌≡◌, Bool, true, false, ◌&&◌, List, [], ◌∷◌, ◌++◌, map, length, get_or, take, drop}
 use Rattle.definitions.specs.Tests.{◌=?◌, fits, each, all}
 use Rattle.definitions.specs.Rights.{Right}
@@ -71,7 +71,7 @@ abbrev pub Plans : ℕ → List ℕ → ℕ → Memory → List ℕ → List ℕ
 Plans k ns from m out out' a = (calls : List Call) → GrownBy m calls → ReadsPlan calls k ns from out out' a
 
 -- Any list of calls and bundles, run from `new`, each on what the last one left: what they leave, and they themselves, oldest
--- first, each with whether it was accepted. The page of a plan may be asked for at any time: it leaves m, and no reckoning hears of it.
+-- first, each with whether it was accepted.
 pub data Ran : Memory → List (RunStep × Bool) → Type 0 where
   new : {m : Memory} {links gens : List ℕ}
       → Creates m.words m.next links gens m.links m.gens (record { tables = m.tables; done = true })
@@ -82,8 +82,6 @@ pub data Ran : Memory → List (RunStep × Bool) → Type 0 where
       → Ran m heard → Asks call m a → Ran m (heard ++ ((single call, accepted a) ∷ []))
   bundled : {m m' : Memory} {heard : List (RunStep × Bool)} {k : ℕ} {ns : List ℕ} {a : Answer}
       → Ran m heard → Bundles k ns m m' a → Ran m' (heard ++ ((bundle k ns, accepted a) ∷ []))
-  planned : {m : Memory} {heard : List (RunStep × Bool)} {k from : ℕ} {ns out out' : List ℕ} {a : Answer}
-      → Ran m heard → Plans k ns from m out out' a → Ran m heard
 
 -- What Tables::stream promises: a page of compartment k's stream from a mapping on, into the slice out, which is then out'.
 abbrev pub Page : Memory → ℕ → ℕ → List ℕ → List ℕ → Answer → Type 0
@@ -170,8 +168,6 @@ pub record SameFor (k : ℕ) (m n : Memory) (xs ys : List RunStep) : Type 0 wher
       → allowance (done xs) k ≡ allowance (done ys) k → Asks call m a → Asks call n b → a ≡ b
   pub bundles : (ns : List ℕ) (m' n' : Memory) (a b : Answer)
       → allowance (done xs) k ≡ allowance (done ys) k → Bundles k ns m m' a → Bundles k ns n n' b → a ≡ b
-  pub plans : (ns : List ℕ) (from : ℕ) (out out' out'' : List ℕ) (a b : Answer)
-      → allowance (done xs) k ≡ allowance (done ys) k → Plans k ns from m out out' a → Plans k ns from n out out'' b → (a ≡ b) × (out' ≡ out'')
   pub regions : stored_at m.next m.words (get_or m.tables.trackers k no_tracker).head
       ≡ stored_at n.next n.words (get_or n.tables.trackers k no_tracker).head
   pub segments : (other : Remapper)
@@ -214,6 +210,14 @@ PermissionsPage m k from out out' a =
 pub data Listed (m : Memory) (k : ℕ) : List ℕ → Type 0 where
   whole : {many : ℕ} {out out' : List ℕ} → PermissionsPage m k 0 out out' (Accepted many) → many < length out / 3
       → Listed m k (take (3 * many) out')
+
+-- A page of a plan is the same after any two runs that leave compartment k the same allowance: order 4 for plans, and of a loan
+-- that was handed back too.
+abbrev pub SamePlans : Type 0
+SamePlans =
+    (k : ℕ) (m n : Memory) (xs ys : List (RunStep × Bool)) (ns : List ℕ) (from : ℕ) (out out' out'' : List ℕ) (a b : Answer)
+    → Ran m xs → Ran n ys → allowance (done (steps_of xs)) k ≡ allowance (done (steps_of ys)) k
+    → Plans k ns from m out out' a → Plans k ns from n out out'' b → (a ≡ b) × (out' ≡ out'')
 
 -- Document 02, order 13: a run that leaves compartment k empty, and behind it the adds of the script for a wish that `plan` did not
 -- refuse. Each of them is accepted, and whoever reads the compartment's permission list reads the wish.

@@ -19,7 +19,7 @@ use free_list::FreeList;
 use gen_arena::{Created as NewArena, GenArena};
 
 // One tracker and one remapper for each compartment, and the arena of the pool's slots.
-#[derive(Drop)]
+#[derive(Clone, Copy)]
 pub struct Tables {
     pub arena: GenArena,
     pub trackers: [RegionTracker; 8],
@@ -27,14 +27,14 @@ pub struct Tables {
 }
 
 // What new makes, and whether the slices have the lengths that it asks for.
-#[derive(Drop)]
+#[derive(Clone, Copy)]
 pub struct Created {
     pub tables: Tables,
     pub done: bool,
 }
 
 // What a call leaves of the tables, and its answer.
-#[derive(Drop)]
+#[derive(Clone, Copy)]
 pub struct Outcome {
     pub tables: Tables,
     pub answer: Answer,

@@ -1,4 +1,6 @@
 // The capability engine: the tables of eight compartments over one pool of 1,024 records, and the scripts that run on them.
+#![tactic(auto)]
+
 mod compartments;
 mod region;
 mod remapper;

@@ -1,7 +1,7 @@
 // Lists of regions over one pool, which the caller lends as four slices: words, record i from RECORD_LEN * i on; next, the
 // slot after each slot, 1,024 for none, whose word 1,024 is the head of the list being worked on; links and gens, the arena's.
-ghost use Rattle.std.specs.Prelude.{◌≡◌, ◌+◌, ◌*◌, ◌-◌, ◌^◌, ◌<◌, ◌≤◌, length, get_or, false, true, not, ◌&&◌, ◌||◌};
-ghost use Rattle.definitions.specs.Tests.{if◌then◌else◌, ◌<?◌, ◌=?◌, ◌≤?◌, bit};
+ghost use Rattle.std.specs.Prelude.{◌≡◌, ◌+◌, ◌*◌, ◌-◌, ◌^◌, ◌<◌, ◌≤◌, length, get_or, false, true, not, ◌&&◌, ◌||◌, if◌then◌else◌};
+ghost use Rattle.definitions.specs.Tests.{◌<?◌, ◌=?◌, ◌≤?◌, bit};
 ghost use Rattle.definitions.specs.Questions.{every_named, ranged};
 ghost use Rattle.definitions.specs.declared.answer.Answer.TheVariants.{Accepted, Refused};
 ghost use Rattle.definitions.proofs.Tables.{add_on, remove_on};
@@ -25,7 +25,7 @@ use gen_arena::{GenArena, Handle, NewHandle};
 pub const POOL_LEN: usize = 1024 * RECORD_LEN;
 
 // The slot that was put in, and the arena without it.
-#[derive(Drop)]
+#[derive(Clone, Copy)]
 pub(crate) struct Inserted {
     pub arena: GenArena,
     pub slot: usize,
@@ -532,7 +532,7 @@ fn lesser(a: HostAddr, b: HostAddr) -> HostAddr
 }
 
 // How far a walk went: the last slot that it passed, 1,024 if none, and the one that it stands at.
-#[derive(Drop)]
+#[derive(Clone, Copy)]
 pub(crate) struct Skipped {
     pub last: usize,
     pub next: usize,
@@ -589,7 +589,7 @@ fn last_from(next: &[usize], p: usize) -> usize
 }
 
 // What was taken off the ring: the head of the list, and the first slot of what lies behind.
-#[derive(Drop)]
+#[derive(Clone, Copy)]
 pub(crate) struct Outside {
     pub head: usize,
     pub rest: usize,
@@ -672,7 +672,7 @@ fn remove_between(
 
 // A compartment's list: its first slot, 1,024 for none; how many records it has, and how many it may have. A tracker is two
 // words: with three, an add took longer.
-#[derive(Drop)]
+#[derive(Clone, Copy)]
 pub struct RegionTracker {
     pub head: usize,
     pub count: u32,
@@ -680,27 +680,27 @@ pub struct RegionTracker {
 }
 
 // A cursor over the permissions: the slot of the record of the next one, 1,024 at the end.
-#[derive(Drop)]
+#[derive(Clone, Copy)]
 pub(crate) struct PermissionIterator {
     pub(crate) next: usize,
 }
 
 // The permission that a cursor came to, with the cursor behind it.
-#[derive(Drop)]
+#[derive(Clone, Copy)]
 pub(crate) enum NextPermission {
     At(MemoryPermission, PermissionIterator),
     End,
 }
 
 // What setting an allowance leaves of a tracker, and its answer.
-#[derive(Drop)]
+#[derive(Clone, Copy)]
 pub(crate) struct Allowed {
     pub tracker: RegionTracker,
     pub answer: Answer,
 }
 
 // What an add or a remove leaves of the list and the arena, and its answer.
-#[derive(Drop)]
+#[derive(Clone, Copy)]
 pub(crate) struct Changed {
     pub tracker: RegionTracker,
     pub arena: GenArena,
@@ -708,7 +708,7 @@ pub(crate) struct Changed {
 }
 
 // What a walk finds out for an add. left is one more than the records that may still be taken beside those for the gaps met.
-#[derive(Drop)]
+#[derive(Clone, Copy)]
 pub(crate) struct AddAsk {
     pub raisable: bool,
     pub cuts_start: bool,
@@ -720,7 +720,7 @@ pub(crate) struct AddAsk {
 }
 
 // What a walk finds out for a remove. lack is 1,025 less the records that may still be taken, and less those that go first.
-#[derive(Drop)]
+#[derive(Clone, Copy)]
 pub(crate) struct RemoveAsk {
     pub begun: bool,
     pub last: HostAddr,

@@ -1,12 +1,12 @@
 // remapper.rs: the segments of one compartment. 64 slots, the links between those in use, the free list of the others,
 // and the head. A link, a head or a slot of 64 means none. A remapper goes in by value; what changes it asks its questions and
 // makes the change in one function, since each that hands a remapper on copies it. Only `build`, which is rare, is apart.
-ghost use Rattle.std.specs.Prelude.{◌≡◌, true, false, cond, ◌&&◌, ◌||◌, List, [], ◌∷◌, ◌++◌, ℕ, ◌+◌, ◌-◌, ◌*◌, ◌<◌, ◌≤◌, length, set};
+ghost use Rattle.std.specs.Prelude.{◌≡◌, true, false, cond, ◌&&◌, ◌||◌, List, [], ◌∷◌, ◌++◌, ℕ, ◌+◌, ◌-◌, ◌*◌, ◌<◌, ◌≤◌, length, set, if◌then◌else◌};
 ghost use Rattle.std.proofs.lemmas.List.Edits.{sets};
 ghost use Rattle.free_list.specs.Stack.{FreeListCall};
 ghost use Rattle.free_list.specs.Grown.{Grown, IsGrown, Allocates, Frees};
 ghost use Rattle.definitions.proofs.SegmentLaws.{Good};
-ghost use Rattle.definitions.specs.Tests.{◌<?◌, if◌then◌else◌, bit};
+ghost use Rattle.definitions.specs.Tests.{◌<?◌, bit};
 ghost use Rattle.definitions.specs.Segments.{segment, is_identity, host_end, span_end, front as front_of, rest as rest_of, touched, span_whole};
 ghost use Rattle.definitions.specs.Pages.{segment_group};
 ghost use Rattle.capability_engine.specs.RemapHeld.{join_links, join_head, behind, Holds, IsHeld, Sound, IsSound};
@@ -18,7 +18,7 @@ ghost use Rattle.capability_engine.specs.RemapListing.{Copied, IsAhead, Starts, 
 use definitions::{Answer, GuestAddr, HostAddr, Refusal, Segment};
 use free_list::{Allocated, FreeList, Freed};
 
-#[derive(Drop)]
+#[derive(Clone, Copy)]
 pub struct Remapper {
     pub segments: [Segment; 64],
     pub links: [u8; 64],
@@ -29,7 +29,7 @@ pub struct Remapper {
 
 // What a call comes to when the questions that need no walk are asked: an answer that leaves the remapper as it is, or a
 // segment that is to be stored, or a range that is to be cut out.
-#[derive(Drop)]
+#[derive(Clone, Copy)]
 pub(crate) enum Change {
     Keep(Answer),
     Put(Segment),
@@ -37,34 +37,34 @@ pub(crate) enum Change {
 }
 
 // What a change leaves, and its answer. A refused one leaves the remapper that went in.
-#[derive(Drop)]
+#[derive(Clone, Copy)]
 pub(crate) struct Changed {
     pub(crate) remapper: Remapper,
     pub(crate) answer: Answer,
 }
 
 // A cursor over the segments: the slot of the next one, 64 at the end.
-#[derive(Drop)]
+#[derive(Clone, Copy)]
 pub(crate) struct RemapperSegmentIterator {
     pub(crate) next_segment: usize,
 }
 
 // The segment that a cursor came to, with the cursor behind it.
-#[derive(Drop)]
+#[derive(Clone, Copy)]
 pub(crate) enum NextSegment {
     At(Segment, RemapperSegmentIterator),
     End,
 }
 
 // A range to unmap, [start, end), in host or in guest addresses.
-#[derive(Drop)]
+#[derive(Clone, Copy)]
 pub(crate) enum Span {
     Host(HostAddr, HostAddr),
     Guest(GuestAddr, GuestAddr),
 }
 
 // What is left of a segment in its place. Its part behind the range, with host and guest starts moved up, leaves that place.
-#[derive(Drop)]
+#[derive(Clone, Copy)]
 pub(crate) enum Left {
     Gone,
     Kept(Segment),
@@ -72,7 +72,7 @@ pub(crate) enum Left {
 
 // Does a range share an address with a segment, and which of the segment's addresses, counted from its start, are the first
 // that go and the first that stay again? 0 where that lies below the start.
-#[derive(Drop)]
+#[derive(Clone, Copy)]
 pub(crate) struct Reach {
     pub(crate) touches: bool,
     pub(crate) from: u64,
@@ -81,7 +81,7 @@ pub(crate) struct Reach {
 
 // What the questions of an unmap want to know of the list: how many parts are left in their place, how many are moved up and the
 // last of these, and whether there is what question 15 refuses.
-#[derive(Drop)]
+#[derive(Clone, Copy)]
 pub(crate) struct Asked {
     pub(crate) left: usize,
     pub(crate) moved: usize,

@@ -24,7 +24,7 @@ use lines::{Ahead, Line, line_ahead, parse_line, put_answer, put_mapping, take_l
 const ANSWER_LEN: usize = 25;
 
 // How far a script has come, beside the tables: between its pieces the first three, and the others of the last piece.
-#[derive(Drop)]
+#[derive(Clone, Copy)]
 pub struct Progress {
     // how many bytes of the present line are held
     pub len: usize,
@@ -41,20 +41,20 @@ pub struct Progress {
 }
 
 // A script that is being run: the bytes of a line that has not ended, and how far it has come.
-#[derive(Drop)]
+#[derive(Clone, Copy)]
 pub struct Script {
     pub line: [u8; 88],
     pub progress: Progress,
 }
 
-#[derive(Drop)]
+#[derive(Clone, Copy)]
 pub struct Fed {
     pub tables: Tables,
     pub script: Script,
 }
 
 // What a line asks for.
-#[derive(Drop)]
+#[derive(Clone, Copy)]
 pub(crate) enum Task {
     Tell(Answer),
     Regions(usize, Call),
@@ -65,7 +65,7 @@ pub(crate) enum Task {
 }
 
 // How many bytes of a line are held now, up to where the piece is taken, and what is to do.
-#[derive(Drop)]
+#[derive(Clone, Copy)]
 pub(crate) struct Heard {
     pub(crate) len: usize,
     pub(crate) used: usize,
@@ -73,7 +73,7 @@ pub(crate) struct Heard {
 }
 
 // How far a P is written; and in its first piece how many mappings did not fit.
-#[derive(Drop)]
+#[derive(Clone, Copy)]
 pub(crate) struct Printed {
     pub(crate) progress: Progress,
     pub(crate) left: usize,

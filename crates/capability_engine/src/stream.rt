@@ -1,8 +1,8 @@
 // The mapping stream of a compartment: a cursor over its records and segments, and pages of it and of its permissions.
 // The records lie in the pool's words, linked; the segments are lent as numbers in list order, four each.
-ghost use Rattle.std.specs.Prelude.{◌≡◌, true, map, ◌+◌, ◌*◌, ◌<◌, ◌≤◌, ◌^◌, min, max, length, drop};
+ghost use Rattle.std.specs.Prelude.{◌≡◌, true, map, ◌+◌, ◌*◌, ◌<◌, ◌≤◌, ◌^◌, min, max, length, drop, if◌then◌else◌};
 ghost use Rattle.std.proofs.lemmas.List.Edits.{sets};
-ghost use Rattle.definitions.specs.Tests.{if◌then◌else◌, ◌=?◌, host};
+ghost use Rattle.definitions.specs.Tests.{◌=?◌, host};
 ghost use Rattle.definitions.specs.Regions.{region, permission_of};
 ghost use Rattle.definitions.specs.Stream.{shared_part, identity, stream};
 ghost use Rattle.definitions.specs.Pages.{mapping_group, permission_group, region_group, segment_group, record_len, Filled};
@@ -18,7 +18,7 @@ use crate::remapper::put_segment;
 use definitions::{GuestAddr, HostAddr, Mapping, MemoryPermission, RECORD_LEN, Region, Segment};
 
 // Where a read of the stream stands.
-#[derive(Drop)]
+#[derive(Clone, Copy)]
 pub(crate) struct RemapCursor {
     // the first record that is not passed, 1,024 for none
     pub(crate) region: usize,
@@ -34,14 +34,14 @@ pub(crate) struct RemapCursor {
 }
 
 // The next mapping with the cursor after it, or the end.
-#[derive(Drop)]
+#[derive(Clone, Copy)]
 pub(crate) enum Step {
     Found(Mapping, RemapCursor),
     Done,
 }
 
 // What one turn of a cursor does: it may yield nothing and move on.
-#[derive(Drop)]
+#[derive(Clone, Copy)]
 pub(crate) enum Turn {
     Yields(Mapping, RemapCursor),
     Skips(RemapCursor),
@@ -49,7 +49,7 @@ pub(crate) enum Turn {
 }
 
 // A mapping that a turn yields, with the cursor behind it.
-#[derive(Drop)]
+#[derive(Clone, Copy)]
 pub(crate) struct Yielded {
     pub(crate) mapping: Mapping,
     pub(crate) cursor: RemapCursor,
