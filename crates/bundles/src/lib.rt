@@ -1,5 +1,7 @@
 // A bundle of adds and removes for one compartment: all of them are done, or none is (document 02, order 9). At the end what a host
 // program calls for one after a script: in a library of its own, so that the one without bundles is compiled as if there were none.
+#![tactic(auto)]
+
 ghost use Rattle.std.specs.Prelude.{◌≡◌, ◌||◌, List, length};
 ghost use Rattle.definitions.specs.Tests.{◌=?◌, bit};
 ghost use Rattle.definitions.specs.Pages.{record_len};
@@ -240,8 +242,7 @@ fn tables_after_bundle(
 }
 
 // Whether a bundle is accepted after a script: groups of four numbers, the kind (0 an add, 1 a remove), start, end and rights.
-#[unsafe(no_mangle)]
-pub extern "C" fn bundle_after(script: &[u8], compartment: u64, groups: &[u64]) -> u64
+pub fn bundle_after(script: &[u8], compartment: u64, groups: &[u64]) -> u64
     ensures { result ≡ coded_as (bundle_answer (left_by script.now) compartment (bundle_of compartment groups.now)) }
 {
     let mut words = [0u64; POOL_LEN];
@@ -262,8 +263,7 @@ pub extern "C" fn bundle_after(script: &[u8], compartment: u64, groups: &[u64]) 
 }
 
 // A page of the compartment's stream after a script and a bundle, which alters nothing where it is refused.
-#[unsafe(no_mangle)]
-pub extern "C" fn stream_after_bundle(
+pub fn stream_after_bundle(
     script: &[u8],
     compartment: u64,
     groups: &[u64],
@@ -291,8 +291,7 @@ pub extern "C" fn stream_after_bundle(
 }
 
 // A page of its stored regions after a script and a bundle.
-#[unsafe(no_mangle)]
-pub extern "C" fn regions_after_bundle(
+pub fn regions_after_bundle(
     script: &[u8],
     compartment: u64,
     groups: &[u64],

@@ -1,4 +1,5 @@
 -- A script from empty tables: what is read after it, and what is printed of it.
+use Rattle.std.specs.Prelude.{if◌then◌else◌}
 use Prim.Native.Nat.{ℕ, ◌+◌, ◌-◌, ◌≤◌}
 use mathlib.Core.Path.{◌≡◌, refl, sym, ap, ◌∙◌}
 use mathlib.Core.Bool.{Bool, true, false}
@@ -8,7 +9,7 @@ use native.Mathlib.Decide.{dec_lt}
 use lib.ListN.{length, take, drop, length-take}
 use lib.Seq.{sets}
 use borrow.Author.Tests.{leb-true}
-use Rattle.definitions.specs.Tests.{◌<?◌, ◌≤?◌, if◌then◌else◌, each}
+use Rattle.definitions.specs.Tests.{◌<?◌, ◌≤?◌, each}
 use Rattle.definitions.specs.Pages.{page}
 use Rattle.definitions.specs.Reckoning.{Compartment, compartment_of}
 use Rattle.definitions.specs.Questions.{ask, refusal_number}

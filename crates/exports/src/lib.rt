@@ -1,4 +1,6 @@
 // What a host program calls: a script from empty tables, and one read after it.
+#![tactic(auto)]
+
 ghost use Rattle.std.specs.Prelude.{◌≡◌};
 ghost use Rattle.definitions.specs.Tests.{guest};
 ghost use Rattle.definitions.specs.Calls.{stream_groups, permission_groups, region_groups, segment_groups, answer};
@@ -59,8 +61,7 @@ fn printed_in(
 }
 
 // Runs a script and writes its output, as many whole lines as fit, from the heading on; answers how many.
-#[unsafe(no_mangle)]
-pub extern "C" fn run_script(script: &[u8], out: &mut [u8]) -> usize
+pub fn run_script(script: &[u8], out: &mut [u8]) -> usize
     ensures { Prints script.now out.old out.new result }
 {
     let mut words = [0u64; POOL_LEN];
@@ -87,8 +88,7 @@ fn tables_after(
 }
 
 // A page of a compartment's stream after a script: hpa, gpa, size, repeat and rights of each mapping.
-#[unsafe(no_mangle)]
-pub extern "C" fn stream_page(script: &[u8], compartment: u64, from: usize, out: &mut [u64]) -> u64
+pub fn stream_page(script: &[u8], compartment: u64, from: usize, out: &mut [u64]) -> u64
     ensures { ReadsPage 5 stream_groups (left_by script.now) compartment from out.old out.new result }
 {
     let mut words = [0u64; POOL_LEN];
@@ -101,13 +101,7 @@ pub extern "C" fn stream_page(script: &[u8], compartment: u64, from: usize, out:
 }
 
 // A page of its permissions: start, end and rights.
-#[unsafe(no_mangle)]
-pub extern "C" fn permissions_page(
-    script: &[u8],
-    compartment: u64,
-    from: usize,
-    out: &mut [u64],
-) -> u64
+pub fn permissions_page(script: &[u8], compartment: u64, from: usize, out: &mut [u64]) -> u64
     ensures { ReadsPage 3 permission_groups (left_by script.now) compartment from out.old out.new result }
 {
     let mut words = [0u64; POOL_LEN];
@@ -120,8 +114,7 @@ pub extern "C" fn permissions_page(
 }
 
 // A page of its stored regions: start, end, holders and a count for each right.
-#[unsafe(no_mangle)]
-pub extern "C" fn regions_page(script: &[u8], compartment: u64, from: usize, out: &mut [u64]) -> u64
+pub fn regions_page(script: &[u8], compartment: u64, from: usize, out: &mut [u64]) -> u64
     ensures { ReadsPage record_len region_groups (left_by script.now) compartment from out.old out.new result }
 {
     let mut words = [0u64; POOL_LEN];
@@ -134,13 +127,7 @@ pub extern "C" fn regions_page(script: &[u8], compartment: u64, from: usize, out
 }
 
 // A page of its stored segments: hpa, gpa, size and repeat.
-#[unsafe(no_mangle)]
-pub extern "C" fn segments_page(
-    script: &[u8],
-    compartment: u64,
-    from: usize,
-    out: &mut [u64],
-) -> u64
+pub fn segments_page(script: &[u8], compartment: u64, from: usize, out: &mut [u64]) -> u64
     ensures { ReadsPage 4 segment_groups (left_by script.now) compartment from out.old out.new result }
 {
     let mut words = [0u64; POOL_LEN];
@@ -153,8 +140,7 @@ pub extern "C" fn segments_page(
 }
 
 // Whether a guest range shares an address with the span of a stored segment after a script.
-#[unsafe(no_mangle)]
-pub extern "C" fn overlaps_after(script: &[u8], compartment: u64, start: u64, size: u64) -> u64
+pub fn overlaps_after(script: &[u8], compartment: u64, start: u64, size: u64) -> u64
     ensures { result ≡ coded_as (answer (left_by script.now) (Overlaps compartment (guest start) size)) }
 {
     let mut words = [0u64; POOL_LEN];

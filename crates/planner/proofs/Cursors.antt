@@ -165,6 +165,8 @@ module _ (allowance : ℕ) (ns : List ℕ) where
   unfolding can_wish
   lacks-none b h e = rw (is-finished ns h) e
 
+pub ruleset lacks = (lacks-number, lacks-none)
+
 -- ---- what the functions return
 
 module _ (c : PlanCursor) (w : MemoryPermission) where

@@ -1,4 +1,5 @@
 -- From the text of a wish to the permission list: the script that is printed for it, run on empty tables, yields it.
+use Rattle.std.specs.Prelude.{if◌then◌else◌}
 use Prim.Native.Nat.{ℕ, zero, suc, ◌+◌, ◌-◌, ◌*◌, ◌/◌, ◌<◌, ◌≤◌}
 use mathlib.Core.Path.{◌≡◌, refl, sym, ap, ◌∙◌}
 use mathlib.Core.Bool.{Bool, true, false, ◌&&◌}
@@ -6,7 +7,7 @@ use mathlib.Core.List.{List, [], ◌∷◌, ◌++◌, map}
 use native.Mathlib.Omega.{arith}
 use lib.ListN.{length, take, drop}
 use borrow.Author.Tests.{lt-ltb, leb-true}
-use Rattle.definitions.specs.Tests.{◌<?◌, ◌≤?◌, ◌=?◌, if◌then◌else◌, fits, host, all}
+use Rattle.definitions.specs.Tests.{◌<?◌, ◌≤?◌, ◌=?◌, fits, host, all}
 use Rattle.definitions.specs.Pages.{permission_group}
 use Rattle.definitions.specs.Calls.{start, compartment, after_from}
 use Rattle.definitions.specs.Script.{Read, numbers, unread, is_digit, digits_of, column_of, first_then, columns_of, lines_of, script_line, left_from}

@@ -1,4 +1,5 @@
 -- Lines are written one after the other, as many as fit; those of a script, part by part.
+use Rattle.std.specs.Prelude.{if◌then◌else◌}
 use Prim.Native.Nat.{ℕ, zero, suc, ◌+◌, ◌-◌, ◌*◌, ◌/◌, ◌<◌, ◌≤◌}
 use mathlib.Core.Path.{◌≡◌, refl, sym, ap, ◌∙◌}
 use mathlib.Core.Bool.{Bool, true, false, true≢false, not}
@@ -8,7 +9,7 @@ use native.Mathlib.Omega.{arith}
 use lib.ListN.{length, take, drop, length-append}
 use lib.Seq.{sets, length-sets}
 use borrow.Author.Tests.{le-leb, lt-leb, lt-ltb, le-ltb, eq-eqb, ne_eqb, not-true, not-false}
-use Rattle.definitions.specs.Tests.{◌=?◌, if◌then◌else◌}
+use Rattle.definitions.specs.Tests.{◌=?◌}
 use Rattle.definitions.specs.Pages.{permission_group}
 use Rattle.definitions.specs.Questions.{refusal_number}
 use Rattle.definitions.specs.Script.{whole_lines, script_line, answer_columns, answer_line}
@@ -261,30 +262,33 @@ too_many : (m : ℕ) (ns : List ℕ) (n : ℕ) → length ns ≡ 3 * n → m < n
 unfolding can_wish can_be
 too_many m ns n e l = simp (lt-leb (length (wanted ns)) m (omega (arith, length-wanted ns)), and-false)
 
-module _ (k m : ℕ) (bytes out out' : List ℕ) (n : ℕ) where
-  pub text-nowhere : 8 ≤ k → PrintsLines (answer_columns (refusal_number NoCompartment) 0 ∷ []) out out' n → PrintsLines (plan_text k m bytes) out out' n
+-- what a compartment that there is not and an allowance that none can have are told: equations, so that plan_script's first two
+-- answers are found whatever its tests are
+module _ (k m : ℕ) (bytes : List ℕ) where
+  pub nowhere_text : 8 ≤ k → plan_text k m bytes ≡ answer_columns (refusal_number NoCompartment) 0 ∷ []
   unfolding plan_text answer_line
-  text-nowhere l p = simp (le-ltb k 8 l) p
+  nowhere_text l = simp (le-ltb k 8 l)
 
-  module _ (l : k < 8) where
-    pub text-over : 1024 < m → PrintsLines (answer_columns (refusal_number PoolExceeded) 0 ∷ []) out out' n → PrintsLines (plan_text k m bytes) out out' n
-    unfolding plan_text answer_line
-    text-over h p = simp (lt-ltb k 8 l, lt-leb m 1024 h) p
+  pub over_text : k < 8 → 1024 < m → plan_text k m bytes ≡ answer_columns (refusal_number PoolExceeded) 0 ∷ []
+  unfolding plan_text answer_line
+  over_text l h = simp (lt-ltb k 8 l, lt-leb m 1024 h)
 
-    module _ (h : m ≤ 1024) where
-      pub asked : plan_text k m bytes ≡ wish_lines k m (wish_of bytes)
-      unfolding plan_text
-      asked = simp (lt-ltb k 8 l, le-leb m 1024 h)
+pub ruleset refused_texts = (nowhere_text, over_text)
 
-      pub text-broken : (i : ℕ) → wish_of bytes ≡ broken i → PrintsLines (answer_columns (refusal_number Malformed) i ∷ []) out out' n
-          → PrintsLines (plan_text k m bytes) out out' n
-      text-broken i e p = rw (asked ∙ ap (wish_lines k m) e) p
+module _ (k m : ℕ) (bytes out out' : List ℕ) (n : ℕ) (l : k < 8) (h : m ≤ 1024) where
+  pub asked : plan_text k m bytes ≡ wish_lines k m (wish_of bytes)
+  unfolding plan_text
+  asked = simp (lt-ltb k 8 l, le-leb m 1024 h)
 
-      pub text-many : (slice : List ℕ) (i : ℕ) → Reads bytes slice i → 1024 < i → PrintsLines (answer_columns (refusal_number NoScript) 0 ∷ []) out out' n
-          → PrintsLines (plan_text k m bytes) out out' n
-      unfolding answer_line
-      text-many slice i r o p = rw (asked ∙ ap (wish_lines k m) r.says, too_many m r.all i r.many (omega arith)) p
+  pub text-broken : (i : ℕ) → wish_of bytes ≡ broken i → PrintsLines (answer_columns (refusal_number Malformed) i ∷ []) out out' n
+      → PrintsLines (plan_text k m bytes) out out' n
+  text-broken i e p = rw (asked ∙ ap (wish_lines k m) e) p
 
-      pub text-wish : (slice : List ℕ) (i : ℕ) → Reads bytes slice i → 3 * i ≤ length slice → PrintsLines (wish_lines k m (wish (take (3 * i) slice))) out out' n
-          → PrintsLines (plan_text k m bytes) out out' n
-      text-wish slice i r o p = rw (asked ∙ ap (wish_lines k m) (r.says ∙ ap wish (sym (r.stored o)))) p
+  pub text-many : (slice : List ℕ) (i : ℕ) → Reads bytes slice i → 1024 < i → PrintsLines (answer_columns (refusal_number NoScript) 0 ∷ []) out out' n
+      → PrintsLines (plan_text k m bytes) out out' n
+  unfolding answer_line
+  text-many slice i r o p = rw (asked ∙ ap (wish_lines k m) r.says, too_many m r.all i r.many (omega arith)) p
+
+  pub text-wish : (slice : List ℕ) (i : ℕ) → Reads bytes slice i → 3 * i ≤ length slice → PrintsLines (wish_lines k m (wish (take (3 * i) slice))) out out' n
+      → PrintsLines (plan_text k m bytes) out out' n
+  text-wish slice i r o p = rw (asked ∙ ap (wish_lines k m) (r.says ∙ ap wish (sym (r.stored o)))) p

@@ -1,6 +1,5 @@
 -- Where the reading of a script's adds stands, and which are still to come.
-use Rattle.std.specs.Prelude.{ℕ, ◌+◌, ◌*◌, true, false, ◌&&◌, List, [], ◌∷◌, get_or, drop}
-use Rattle.definitions.specs.Tests.{if◌then◌else◌}
+use Rattle.std.specs.Prelude.{ℕ, ◌+◌, ◌*◌, true, false, ◌&&◌, List, [], ◌∷◌, get_or, drop, if◌then◌else◌}
 use Rattle.definitions.specs.Planner.{wanted, touches, plan_after}
 use Rattle.definitions.specs.declared.region.MemoryPermission.{MemoryPermission}
 use Rattle.planner.specs.declared.PlanCursor.{PlanCursor}

@@ -1,5 +1,7 @@
 // Document 02, order 13, calls for a wanted layout: the adds that give a list of permissions, read by pages; and as text, in
 // wishes.rt.
+#![tactic(auto)]
+
 mod wishes;
 
 ghost use Rattle.std.specs.Prelude.{◌≡◌, ◌&&◌, map, ◌+◌, ◌*◌, ◌≤◌, length, drop};
@@ -14,7 +16,7 @@ pub use wishes::{first_malformed, plan_script};
 
 // Where the reading of the adds stands: at which range; whether that is added a second time; whether the one before was added
 // once, and which that was.
-#[derive(Drop)]
+#[derive(Clone, Copy)]
 pub(crate) struct PlanCursor {
     pub(crate) at: usize,
     pub(crate) again: bool,
@@ -91,6 +93,7 @@ fn can_be(allowance: u64, wanted: &[u64]) -> bool
 }
 
 // Can a script give the list? The last range lacks no number.
+#[tactic(auto, using(crate::proofs::Cursors::lacks))]
 fn can_wish(allowance: u64, wanted: &[u64]) -> bool
     ensures { result ≡ planner.can_wish allowance wanted.now }
 {

@@ -22,21 +22,21 @@ const LINE_LEN: usize = 64;
 const MOST: usize = 1024;
 
 // What a line of a wish says.
-#[derive(Drop)]
+#[derive(Clone, Copy)]
 pub(crate) enum Range {
     Is(MemoryPermission),
     Malformed,
 }
 
 // What a wish's text says: so many ranges; or the number, from 1, of the first line that is not of the form.
-#[derive(Drop)]
+#[derive(Clone, Copy)]
 pub(crate) enum Reading {
     Ranges(usize),
     Malformed(usize),
 }
 
 // How far lines are written: up to a place, and whether one did not fit.
-#[derive(Drop)]
+#[derive(Clone, Copy)]
 pub(crate) struct Written {
     pub(crate) at: usize,
     pub(crate) full: bool,
@@ -263,6 +263,7 @@ fn put_wish(out: &mut [u8], compartment: u64, allowance: u64, wanted: &[u64]) ->
 }
 
 // What the text of a wish comes to: as many whole lines as fit of the script for it, or of its refusal; answers how many bytes.
+#[tactic(auto, using(crate::proofs::WriteLaws::refused_texts))]
 pub fn plan_script(compartment: u64, allowance: u64, text: &[u8], out: &mut [u8]) -> usize
     ensures { PrintsPlan compartment allowance text.now out.old out.new result }
 {

@@ -1,4 +1,5 @@
 -- From the text of a wish to the permission list, through the functions' promises (specs/Plans.antt).
+use Rattle.std.specs.Prelude.{if◌then◌else◌}
 use Prim.Native.Nat.{ℕ, ◌-◌, ◌≤◌}
 use mathlib.Core.Path.{◌≡◌, refl, ap, ◌∙◌}
 use mathlib.Core.Bool.{Bool, true, false}
@@ -7,7 +8,7 @@ use native.Mathlib.Omega.{arith}
 use lib.ListN.{length, take}
 use lib.Seq.{sets, sets-eq, take_at}
 use borrow.Author.Tests.{lt-ltb, leb-true}
-use Rattle.definitions.specs.Tests.{◌≤?◌, if◌then◌else◌}
+use Rattle.definitions.specs.Tests.{◌≤?◌}
 use Rattle.definitions.specs.Questions.{ask}
 use Rattle.definitions.specs.Reckoning.{Compartment}
 use Rattle.definitions.specs.Calls.{compartment, permission_groups}

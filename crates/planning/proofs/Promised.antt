@@ -1,4 +1,4 @@
--- What `planned` of a run takes as promised (capability_engine/specs/WholeStream.antt) is what `plan` promises.
+-- `Plans`, of which specs/WholeStream.antt of capability_engine speaks, is what `plan` promises.
 use Rattle.capability_engine.specs.WholeStream.{Plans}
 use Rattle.capability_engine.proofs.Promised.{Gives, memory}
 use Rattle.planning.proofs.plan.Reads as plan

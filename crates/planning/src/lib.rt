@@ -1,5 +1,7 @@
 // The script for a wanted layout under the allowance that a compartment has (document 02, order 13): the call on the tables, and what a
 // host program asks for after a script, in a library of its own.
+#![tactic(auto)]
+
 ghost use Rattle.std.specs.Prelude.{List};
 ghost use Rattle.definitions.specs.declared.call.Call.{Call};
 ghost use Rattle.capability_engine.specs.CompartmentGrown.{Grown, IsGrown, Sized, ReadsPlan};
@@ -68,8 +70,7 @@ fn plan_in(
 }
 
 // A page of the script for a wanted layout, under the allowance that a compartment has after a script.
-#[unsafe(no_mangle)]
-pub extern "C" fn plan_page(
+pub fn plan_page(
     script: &[u8],
     compartment: u64,
     wanted: &[u64],
@@ -96,13 +97,7 @@ pub extern "C" fn plan_page(
 }
 
 // The script for a wish that is a text, or its refusal: as many whole lines as out takes; answers how many bytes.
-#[unsafe(no_mangle)]
-pub extern "C" fn plan_script(
-    compartment: u64,
-    allowance: u64,
-    text: &[u8],
-    out: &mut [u8],
-) -> usize
+pub fn plan_script(compartment: u64, allowance: u64, text: &[u8], out: &mut [u8]) -> usize
     ensures { PrintsPlan compartment allowance text.now out.old out.new result }
 {
     planner::plan_script(compartment, allowance, text, out)
