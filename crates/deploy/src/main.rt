@@ -1,18 +1,20 @@
 // Reads a script from standard input and, behind a line of one dash, the lines of a bundle: adds and removes for one compartment, in
 // the script's columns. Further bundles follow behind further dashes. Each is done whole or not at all, on what the script and the
 // accepted bundles before it left. For each it writes a line with its answer and value, and the mappings of its compartment after it.
+#![tactic(auto)]
+
 ghost use Rattle.std.specs.Prelude.{◌<◌, ◌≤◌, length};
 
 use definitions::{Call, GuestAddr, HostAddr, Mapping, MemOps};
-use libc::{STDERR_FILENO, STDIN_FILENO, STDOUT_FILENO};
 use lines::Line;
+use std::io::{self, Stdout};
 
 // The numbers of 33 groups: one group more than a bundle may have, so that a longer one is seen to be too long.
 const GROUPS_LEN: usize = 132;
 
 // What was read of a text up to a line of one dash: for which compartment, how many numbers its groups have, where its lines end,
 // where the ones behind the dash begin, and whether there was a dash.
-#[derive(Drop)]
+#[derive(Clone, Copy)]
 struct Bundle {
     compartment: u64,
     len: usize,
@@ -139,7 +141,7 @@ fn refusal_of(answer: u64) -> u64 {
 }
 
 // An answer in the columns of the output: its number and its value.
-fn tell(answer: u64) {
+fn tell(stdout: Stdout, answer: u64) -> io::Result<()> {
     let refusal = refusal_of(answer);
     let mut value = answer;
     if refusal != 0 {
@@ -148,16 +150,16 @@ fn tell(answer: u64) {
     let mut line = [b'\n'; 25];
     columns::write(&mut line, 0, 3, refusal);
     columns::write(&mut line, 3, 21, value);
-    io::write_all(STDOUT_FILENO, &line);
+    stdout.write_all(&line)
 }
 
 // So many mappings, a line each.
-fn show_mappings(numbers: &[u64], many: usize) {
+fn show_mappings(stdout: Stdout, numbers: &[u64], many: usize) -> io::Result<()> {
     let mut from = 0;
     let mut left = many;
     while left > 0 {
         if numbers.len() - from < 5 {
-            return;
+            return Ok(());
         }
         let mapping = Mapping {
             hpa: HostAddr(numbers[from]),
@@ -168,14 +170,15 @@ fn show_mappings(numbers: &[u64], many: usize) {
         };
         let mut line = [b'\n'; 106];
         lines::put_mapping(&mut line, 0, mapping);
-        io::write_all(STDOUT_FILENO, &line);
+        stdout.write_all(&line)?;
         from += 5;
         left -= 1;
     }
+    Ok(())
 }
 
 // The mappings of the compartment after a script and a bundle, by pages.
-fn show_stream(script: &[u8], compartment: u64, groups: &[u64]) {
+fn show_stream(stdout: Stdout, script: &[u8], compartment: u64, groups: &[u64]) -> io::Result<()> {
     let mut page = [0u64; 5120];
     let mut from = 0;
     // more turns than any stream has pages, so that the loop is seen to end
@@ -183,34 +186,41 @@ fn show_stream(script: &[u8], compartment: u64, groups: &[u64]) {
     while turns > 0 {
         let answer = bundles::stream_after_bundle(script, compartment, groups, from, &mut page);
         if answer > 1024 {
-            return;
+            return Ok(());
         }
         let many = answer as usize;
-        show_mappings(&page, many);
+        show_mappings(stdout, &page, many)?;
         if many < 1024 {
-            return;
+            return Ok(());
         }
         from += 1024;
         turns -= 1;
     }
+    Ok(())
 }
 
 // One bundle after a script; whether it was accepted.
-fn run(script: &[u8], compartment: u64, groups: &[u64]) -> bool {
+fn run(stdout: Stdout, script: &[u8], compartment: u64, groups: &[u64]) -> io::Result<bool> {
     let answer = bundles::bundle_after(script, compartment, groups);
-    tell(answer);
-    show_stream(script, compartment, groups);
-    refusal_of(answer) == 0
+    tell(stdout, answer)?;
+    show_stream(stdout, script, compartment, groups)?;
+    Ok(refusal_of(answer) == 0)
 }
 
 // A bundle that was read behind the script that a text begins with; whether it was accepted.
-fn run_read(text: &[u8], from: usize, groups: &[u64], bundle: Bundle) -> bool
+fn run_read(
+    stdout: Stdout,
+    text: &[u8],
+    from: usize,
+    groups: &[u64],
+    bundle: Bundle,
+) -> io::Result<bool>
     requires { (from ≤ length text.now) × (bundle.len ≤ length groups.now) }
 {
     let script = &text[0..from];
     let len = bundle.len;
     let numbers = &groups[0..len];
-    run(script, bundle.compartment, numbers)
+    run(stdout, script, bundle.compartment, numbers)
 }
 
 // A byte of a line that is to say nothing: line ends stay.
@@ -237,7 +247,7 @@ fn settle(text: &mut [u8], from: usize, end: usize, accepted: bool)
 
 // All bundles of a text. The script before one is all that stands before it: a dash is no line of the form and changes nothing, and
 // the lines of an accepted bundle are the calls that it counts as.
-fn deploy(text: &mut [u8]) {
+fn deploy(stdout: Stdout, text: &mut [u8]) -> io::Result<()> {
     let mut groups = [0u64; GROUPS_LEN];
     let script = read_bundle(text, 0, &mut groups);
     let mut more = script.more;
@@ -246,27 +256,27 @@ fn deploy(text: &mut [u8]) {
     let mut turns = text.len();
     while turns > 0 {
         if !more {
-            return;
+            return Ok(());
         }
         let bundle = read_bundle(text, from, &mut groups);
-        let accepted = run_read(text, from, &groups, bundle);
+        let accepted = run_read(stdout, text, from, &groups, bundle)?;
         settle(text, from, bundle.end, accepted);
         more = bundle.more;
         from = bundle.next;
         turns -= 1;
     }
+    Ok(())
 }
 
-fn main() {
-    let mut text = io::large_buffer();
-    let n = io::read_full(STDIN_FILENO, &mut text);
+fn main(rt: HostRuntime) -> io::Result<()> {
+    let stdout = rt.stdout();
+    let mut text = [0u8; 65536];
+    let n = streams::read_full(&mut rt.stdin(), &mut text)?;
     if n == text.len() {
-        io::write_all(
-            STDERR_FILENO,
+        return rt.stderr().write_all(
             b"deploy: the text has 65,536 bytes or more, and nothing was done\n",
         );
-        return;
     }
-    io::write_all(STDOUT_FILENO, &lines::HEADING);
-    deploy(&mut text[..n]);
+    stdout.write_all(&lines::HEADING)?;
+    deploy(stdout, &mut text[..n])
 }

@@ -1,11 +1,13 @@
 // The marking key: a script from standard input, its output to standard output, in bounded memory.
+#![tactic(auto)]
+
 ghost use Rattle.capability_engine.specs.CompartmentGrown.{IsGrown};
 
 use capability_engine::{POOL_LEN, Script, Tables};
-use libc::{STDIN_FILENO, STDOUT_FILENO};
+use std::io::{Read, Stdout};
 
 // A script as far as it has come, and whether all of its output could be written.
-#[derive(Drop)]
+#[derive(Clone, Copy)]
 pub struct Going {
     pub tables: Tables,
     pub script: Script,
@@ -14,6 +16,7 @@ pub struct Going {
 
 // A piece of the script goes in, and what it prints is written out.
 fn pump(
+    stdout: Stdout,
     going: Going,
     input: &[u8],
     words: &mut [u64],
@@ -44,7 +47,7 @@ fn pump(
         script = fed.script;
         let p = script.progress;
         let at = p.at;
-        if !io::write_all(STDOUT_FILENO, &out[..at]) {
+        if stdout.write_all(&out[..at]).is_err() {
             return Going {
                 tables,
                 script,
@@ -64,7 +67,9 @@ fn pump(
     }
 }
 
-fn main() {
+fn main(rt: HostRuntime) {
+    let mut stdin = rt.stdin();
+    let stdout = rt.stdout();
     let mut words = [0u64; POOL_LEN];
     let mut next = [0usize; 1025];
     let mut links = [0usize; 1024];
@@ -73,7 +78,7 @@ fn main() {
     let made = Tables::new(&words, &next, &mut links, &mut gens);
     let tables = made.tables;
     let script = Script::new();
-    let well = io::write_all(STDOUT_FILENO, &lines::HEADING);
+    let well = stdout.write_all(&lines::HEADING).is_ok();
     let mut going = Going {
         tables,
         script,
@@ -84,12 +89,14 @@ fn main() {
         if !going.well {
             return;
         }
-        let got = libc::read(STDIN_FILENO, &mut input);
-        if got <= 0 {
+        let Ok(n) = stdin.read(&mut input) else {
+            break;
+        };
+        if n == 0 {
             break;
         }
-        let n = io::count(got, &input);
         going = pump(
+            stdout,
             going,
             &input[..n],
             &mut words,
@@ -104,6 +111,8 @@ fn main() {
     let p = c.progress;
     if p.len > 0 {
         let end = [b'\n'; 1];
-        pump(going, &end, &mut words, &mut next, &mut links, &mut gens);
+        pump(
+            stdout, going, &end, &mut words, &mut next, &mut links, &mut gens,
+        );
     }
 }

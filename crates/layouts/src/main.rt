@@ -1,11 +1,13 @@
 // Runs layouts of document 01, and of document 02's orders 4, 8, 10 and 11, that concern regions over the public calls, and writes
 // each answer: the call, its answer's number and its value. Then the pool is filled, from one compartment and from all, and emptied.
+#![tactic(auto)]
+
 ghost use Rattle.capability_engine.specs.CompartmentGrown.{IsGrown};
 ghost use Rattle.std.specs.Prelude.{◌<◌, ◌≤◌};
 
 use capability_engine::{POOL_LEN, Tables};
 use definitions::{Answer, HostAddr};
-use libc::STDOUT_FILENO;
+use std::io::Stdout;
 
 // Five numbers a row: the call (0 fresh tables, 1 add, 2 remove, 3 get_refcount, 4 permissions, 5 allow), the compartment, and
 // its start, end and rights, or the permission to read from, or the allowance.
@@ -667,27 +669,29 @@ const LAYOUTS: [u64; 655] = [
     0,
 ];
 
-fn text(bytes: &[u8]) {
-    io::write_all(STDOUT_FILENO, bytes);
+// What cannot be written is passed over.
+fn text(stdout: Stdout, bytes: &[u8]) {
+    let _ = stdout.write_all(bytes);
 }
 
-fn number(n: u64) {
-    text(b" ");
-    io::print_decimal(STDOUT_FILENO, n);
+fn number(stdout: Stdout, n: u64) {
+    text(stdout, b" ");
+    let _ = stdout.print(n);
 }
 
 // An answer's number and value, if told to.
-fn show(answer: Answer, shown: bool) {
+fn show(stdout: Stdout, answer: Answer, shown: bool) {
     if shown {
-        text(b":");
-        number(answer.number());
-        number(answer.value());
-        text(b"\n");
+        text(stdout, b":");
+        number(stdout, answer.number());
+        number(stdout, answer.value());
+        text(stdout, b"\n");
     }
 }
 
 // Adds or removes a range, and writes the answer if told to.
 fn change(
+    stdout: Stdout,
     t: Tables,
     adds: bool,
     k: u64,
@@ -708,16 +712,17 @@ fn change(
     if adds {
         let o = t.add(k, start, end, rights, words, next, links, gens);
         let answer = o.answer;
-        show(answer, shown);
+        show(stdout, answer, shown);
         return o.tables;
     }
     let o = t.remove(k, start, end, rights, words, next, links, gens);
     let answer = o.answer;
-    show(answer, shown);
+    show(stdout, answer, shown);
     o.tables
 }
 
 fn count(
+    stdout: Stdout,
     t: Tables,
     k: u64,
     start: u64,
@@ -730,11 +735,12 @@ fn count(
     requires { IsGrown words.now next.now links.now gens.now t }
 {
     let answer = t.get_refcount(k, HostAddr(start), HostAddr(end), words, next, links, gens);
-    show(answer, true);
+    show(stdout, answer, true);
 }
 
 // Sets an allowance, and writes the answer.
 fn allow(
+    stdout: Stdout,
     t: Tables,
     k: u64,
     allowance: u64,
@@ -748,12 +754,13 @@ fn allow(
 {
     let o = t.allow(k, allowance, words, next, links, gens);
     let answer = o.answer;
-    show(answer, true);
+    show(stdout, answer, true);
     o.tables
 }
 
 // A page of at most three permissions, from a place on: the whole slice is written, with 7 where nothing was read.
 fn permissions(
+    stdout: Stdout,
     t: Tables,
     k: u64,
     from: u64,
@@ -767,21 +774,28 @@ fn permissions(
     let mut out = [7u64; 11];
     let page: &mut [u64] = &mut out;
     let answer = t.permissions(k, from as usize, page, words, next, links, gens);
-    show(answer, true);
+    show(stdout, answer, true);
     let mut i = 0;
     while i < page.len() {
-        number(page[i]);
+        number(stdout, page[i]);
         i += 1;
     }
-    text(b"\n");
+    text(stdout, b"\n");
 }
 
 // Fresh tables over the same slices.
-fn fresh(t: Tables, words: &[u64], next: &[usize], links: &mut [usize], gens: &mut [u64]) -> Tables
+fn fresh(
+    stdout: Stdout,
+    t: Tables,
+    words: &[u64],
+    next: &[usize],
+    links: &mut [usize],
+    gens: &mut [u64],
+) -> Tables
     requires { IsGrown words.now next.now links.old gens.old t }
     ensures { IsGrown words.now next.now links.new gens.new result }
 {
-    text(b"\n");
+    text(stdout, b"\n");
     let made = Tables::new(words, next, links, gens);
     if made.done {
         return made.tables;
@@ -791,6 +805,7 @@ fn fresh(t: Tables, words: &[u64], next: &[usize], links: &mut [usize], gens: &m
 
 // Row i of the layouts.
 fn row(
+    stdout: Stdout,
     t: Tables,
     i: usize,
     words: &mut [u64],
@@ -809,30 +824,33 @@ fn row(
     let to = LAYOUTS[at + 3];
     let rights = LAYOUTS[at + 4];
     if call == 0 {
-        return fresh(t, words, next, links, gens);
+        return fresh(stdout, t, words, next, links, gens);
     }
-    number(call);
-    number(k);
-    number(from);
-    number(to);
-    number(rights);
+    number(stdout, call);
+    number(stdout, k);
+    number(stdout, from);
+    number(stdout, to);
+    number(stdout, rights);
     if call == 3 {
-        count(t, k, from, to, words, next, links, gens);
+        count(stdout, t, k, from, to, words, next, links, gens);
         return t;
     }
     if call == 4 {
-        permissions(t, k, from, words, next, links, gens);
+        permissions(stdout, t, k, from, words, next, links, gens);
         return t;
     }
     if call == 5 {
-        return allow(t, k, from, words, next, links, gens);
+        return allow(stdout, t, k, from, words, next, links, gens);
     }
     let adds = call == 1;
-    change(t, adds, k, from, to, rights, true, words, next, links, gens)
+    change(
+        stdout, t, adds, k, from, to, rights, true, words, next, links, gens,
+    )
 }
 
 // Adds or removes the single addresses 0, 2, .. 2046, of the compartments 0 to many - 1 in turn.
 fn singles(
+    stdout: Stdout,
     t: Tables,
     adds: bool,
     many: u64,
@@ -850,9 +868,10 @@ fn singles(
     while i < 1024 {
         let shown = i % 256 == 255;
         if shown {
-            number(i);
+            number(stdout, i);
         }
         t = change(
+            stdout,
             t,
             adds,
             i % many,
@@ -872,6 +891,7 @@ fn singles(
 
 // With 1,024 records in use, what needs none more is accepted, and what needs one is 5.
 fn crowded(
+    stdout: Stdout,
     t: Tables,
     words: &mut [u64],
     next: &mut [usize],
@@ -881,14 +901,21 @@ fn crowded(
     requires { IsGrown words.old next.old links.old gens.old t }
     ensures { IsGrown words.new next.new links.new gens.new result }
 {
-    let same = change(t, true, 0, 0, 1, 1, true, words, next, links, gens);
-    let over = change(same, true, 0, 0, 2, 1, true, words, next, links, gens);
-    let other = change(over, true, 7, 4096, 4097, 1, true, words, next, links, gens);
-    change(other, false, 0, 0, 1, 1, true, words, next, links, gens)
+    let same = change(stdout, t, true, 0, 0, 1, 1, true, words, next, links, gens);
+    let over = change(
+        stdout, same, true, 0, 0, 2, 1, true, words, next, links, gens,
+    );
+    let other = change(
+        stdout, over, true, 7, 4096, 4097, 1, true, words, next, links, gens,
+    );
+    change(
+        stdout, other, false, 0, 0, 1, 1, true, words, next, links, gens,
+    )
 }
 
 // With all removed, a long range is accepted again; then fresh tables.
 fn cleared(
+    stdout: Stdout,
     t: Tables,
     words: &mut [u64],
     next: &mut [usize],
@@ -898,13 +925,16 @@ fn cleared(
     requires { IsGrown words.old next.old links.old gens.old t }
     ensures { IsGrown words.new next.new links.new gens.new result }
 {
-    let last = change(t, true, 0, 0, 4096, 3, true, words, next, links, gens);
-    permissions(last, 0, 0, words, next, links, gens);
-    fresh(last, words, next, links, gens)
+    let last = change(
+        stdout, t, true, 0, 0, 4096, 3, true, words, next, links, gens,
+    );
+    permissions(stdout, last, 0, 0, words, next, links, gens);
+    fresh(stdout, last, words, next, links, gens)
 }
 
 // Fills the pool from that many compartments, and empties it.
 fn crowd(
+    stdout: Stdout,
     t: Tables,
     many: u64,
     words: &mut [u64],
@@ -916,32 +946,46 @@ fn crowd(
     requires grown { IsGrown words.old next.old links.old gens.old t }
     ensures { IsGrown words.new next.new links.new gens.new result }
 {
-    let full = singles(t, true, many, words, next, links, gens);
-    let back = crowded(full, words, next, links, gens);
-    let none = singles(back, false, many, words, next, links, gens);
-    cleared(none, words, next, links, gens)
+    let full = singles(stdout, t, true, many, words, next, links, gens);
+    let back = crowded(stdout, full, words, next, links, gens);
+    let none = singles(stdout, back, false, many, words, next, links, gens);
+    cleared(stdout, none, words, next, links, gens)
 }
 
-fn run(t: Tables, words: &mut [u64], next: &mut [usize], links: &mut [usize], gens: &mut [u64])
+fn run(
+    stdout: Stdout,
+    t: Tables,
+    words: &mut [u64],
+    next: &mut [usize],
+    links: &mut [usize],
+    gens: &mut [u64],
+)
     requires { IsGrown words.old next.old links.old gens.old t }
 {
     let mut t = t;
     let mut i: usize = 0;
     while i < 131 {
-        t = row(t, i, words, next, links, gens);
+        t = row(stdout, t, i, words, next, links, gens);
         i += 1;
     }
-    let one = crowd(t, 1, words, next, links, gens);
-    crowd(one, 8, words, next, links, gens);
+    let one = crowd(stdout, t, 1, words, next, links, gens);
+    crowd(stdout, one, 8, words, next, links, gens);
 }
 
-fn main() {
+fn main(rt: HostRuntime) {
     let mut words = [0u64; POOL_LEN];
     let mut next = [0usize; 1025];
     let mut links = [0usize; 1024];
     let mut gens = [0u64; 1024];
     let made = Tables::new(&words, &next, &mut links, &mut gens);
     if made.done {
-        run(made.tables, &mut words, &mut next, &mut links, &mut gens);
+        run(
+            rt.stdout(),
+            made.tables,
+            &mut words,
+            &mut next,
+            &mut links,
+            &mut gens,
+        );
     }
 }

@@ -1,41 +1,41 @@
 // What the program writes: text, numbers, and slots in the order in which they come.
 use gen_arena::Handle;
-use libc::STDOUT_FILENO;
+use std::io::Stdout;
 
-pub(crate) fn text(bytes: &[u8]) {
-    io::write_all(STDOUT_FILENO, bytes);
+pub(crate) fn text(out: Stdout, bytes: &[u8]) {
+    let _ = out.write_all(bytes);
 }
 
-pub(crate) fn number(n: usize) {
-    io::print_decimal(STDOUT_FILENO, n as u64);
+pub(crate) fn number(out: Stdout, n: usize) {
+    let _ = out.print(n);
 }
 
-pub(crate) fn yes_or_no(answer: bool) {
+pub(crate) fn yes_or_no(out: Stdout, answer: bool) {
     if answer {
-        text(b" yes");
+        text(out, b" yes")
     } else {
-        text(b" no");
+        text(out, b" no")
     }
 }
 
-pub(crate) fn freed_or_refused(done: bool) {
+pub(crate) fn freed_or_refused(out: Stdout, done: bool) {
     if done {
-        text(b" freed\n");
+        text(out, b" freed\n")
     } else {
-        text(b" refused\n");
+        text(out, b" refused\n")
     }
 }
 
 // A handle, as slot@generation.
-pub(crate) fn handle(h: Handle) {
-    number(h.idx);
-    text(b"@");
-    io::print_decimal(STDOUT_FILENO, h.generation);
+pub(crate) fn handle(out: Stdout, h: Handle) {
+    number(out, h.idx);
+    text(out, b"@");
+    let _ = out.print(h.generation);
 }
 
 // Slots in the order in which they come. The first four and the last four of the total that is expected are written,
 // and all go into the check.
-#[derive(Drop)]
+#[derive(Clone, Copy)]
 pub(crate) struct Tally {
     pub(crate) total: usize,
     pub(crate) seen: usize,
@@ -62,13 +62,13 @@ impl Tally {
     }
 
     // Is the next one to be written? Where the first left out would stand, two dots do.
-    fn is_shown(self) -> bool {
+    fn is_shown(self, out: Stdout) -> bool {
         let seen = self.seen;
         if seen < 4 {
             return true;
         }
         if seen == 4 {
-            text(b" ..");
+            text(out, b" ..");
         }
         self.total <= std::num::wrapping_add_usize(seen, 4)
     }
@@ -81,28 +81,28 @@ impl Tally {
         }
     }
 
-    pub(crate) fn slot(self, slot: usize) -> Tally {
-        if self.is_shown() {
-            text(b" ");
-            number(slot);
+    pub(crate) fn slot(self, out: Stdout, slot: usize) -> Tally {
+        if self.is_shown(out) {
+            text(out, b" ");
+            number(out, slot);
         }
         self.counted().mixed(slot as u64)
     }
 
-    pub(crate) fn handle(self, h: Handle) -> Tally {
-        if self.is_shown() {
-            text(b" ");
-            handle(h);
+    pub(crate) fn handle(self, out: Stdout, h: Handle) -> Tally {
+        if self.is_shown(out) {
+            text(out, b" ");
+            handle(out, h);
         }
         self.counted().mixed(h.idx as u64).mixed(h.generation)
     }
 
     // The end of the line: how many there were, and the check.
-    pub(crate) fn end(self) {
-        text(b"; ");
-        number(self.seen);
-        text(b" slots, check ");
-        io::print_decimal(STDOUT_FILENO, self.check);
-        text(b"\n");
+    pub(crate) fn end(self, out: Stdout) {
+        text(out, b"; ");
+        number(out, self.seen);
+        text(out, b" slots, check ");
+        let _ = out.print(self.check);
+        text(out, b"\n")
     }
 }

@@ -1,17 +1,19 @@
 // Long reads of the stream: 1,024 records under one segment, and under 64 that overlap. A line for each read says from which
 // mapping and how many numbers the slice takes, or how many bytes a P's output takes; then the answer, and the last mapping read.
+#![tactic(auto)]
+
 ghost use Rattle.std.specs.Prelude.{◌≤◌};
 
 use columns::Put;
-use libc::STDOUT_FILENO;
+use std::io::{self, Stdout};
 
-fn text(bytes: &[u8]) {
-    io::write_all(STDOUT_FILENO, bytes);
+fn text(stdout: Stdout, bytes: &[u8]) -> io::Result<()> {
+    stdout.write_all(bytes)
 }
 
-fn number(n: u64) {
-    text(b" ");
-    io::print_decimal(STDOUT_FILENO, n);
+fn number(stdout: Stdout, n: u64) -> io::Result<()> {
+    text(stdout, b" ")?;
+    stdout.print(n)
 }
 
 // ---- the script
@@ -105,83 +107,84 @@ fn put_segments(script: &mut [u8], from: usize) -> usize {
 // ---- the reads
 
 // The last group of so many, if there is one.
-fn show_last(groups: &[u64], many: u64) {
+fn show_last(stdout: Stdout, groups: &[u64], many: u64) -> io::Result<()> {
     if many == 0 {
-        return;
+        return Ok(());
     }
     if many > groups.len() as u64 / 5 {
-        return;
+        return Ok(());
     }
     let at = 5 * (many as usize - 1);
-    number(groups[at]);
-    number(groups[at + 1]);
-    number(groups[at + 2]);
-    number(groups[at + 3]);
-    number(groups[at + 4]);
+    number(stdout, groups[at])?;
+    number(stdout, groups[at + 1])?;
+    number(stdout, groups[at + 2])?;
+    number(stdout, groups[at + 3])?;
+    number(stdout, groups[at + 4])
 }
 
-fn read_page(script: &[u8], from: usize, out: &mut [u64]) {
+fn read_page(stdout: Stdout, script: &[u8], from: usize, out: &mut [u64]) -> io::Result<()> {
     let many = exports::stream_page(script, 0, from, out);
-    text(b"page");
-    number(from as u64);
-    number(out.len() as u64);
-    text(b":");
-    number(many);
-    text(b":");
-    show_last(out, many);
-    text(b"\n");
+    text(stdout, b"page")?;
+    number(stdout, from as u64)?;
+    number(stdout, out.len() as u64)?;
+    text(stdout, b":")?;
+    number(stdout, many)?;
+    text(stdout, b":")?;
+    show_last(stdout, out, many)?;
+    text(stdout, b"\n")
 }
 
 // Pages that hold all the mappings, or their half, or one, or none; from the first on, from the middle, and past the last.
-fn read_pages(script: &[u8], many: usize)
+fn read_pages(stdout: Stdout, script: &[u8], many: usize) -> io::Result<()>
     requires { 1 ≤ many }
 {
     let mut long = [0u64; 10240];
     let mut half = [0u64; 5120];
     let mut one = [0u64; 9];
     let mut none = [0u64; 4];
-    read_page(script, 0, &mut long);
-    read_page(script, 0, &mut half);
-    read_page(script, many / 2, &mut half);
-    read_page(script, many / 2, &mut one);
-    read_page(script, many - 1, &mut one);
-    read_page(script, many, &mut one);
-    read_page(script, many / 2, &mut none);
-    read_page(script, 0, &mut none);
+    read_page(stdout, script, 0, &mut long)?;
+    read_page(stdout, script, 0, &mut half)?;
+    read_page(stdout, script, many / 2, &mut half)?;
+    read_page(stdout, script, many / 2, &mut one)?;
+    read_page(stdout, script, many - 1, &mut one)?;
+    read_page(stdout, script, many, &mut one)?;
+    read_page(stdout, script, many / 2, &mut none)?;
+    read_page(stdout, script, 0, &mut none)
 }
 
 // A P whose mappings do not all fit, behind the answers of the calls before it.
-fn read_text(script: &[u8]) {
-    let mut out = io::large_buffer();
+fn read_text(stdout: Stdout, script: &[u8]) -> io::Result<()> {
+    let mut out = [0u8; 65536];
     let lines = exports::run_script(script, &mut out);
-    text(b"P");
-    number(65536);
-    text(b":");
-    number(lines as u64);
-    text(b"\n");
+    text(stdout, b"P")?;
+    number(stdout, 65536)?;
+    text(stdout, b":")?;
+    number(stdout, lines as u64)?;
+    text(stdout, b"\n")
 }
 
 // The stream of so many mappings after the calls of a script, by pages; and as a P behind them prints it.
-fn read(script: &[u8], calls: usize, printed: usize, many: usize)
+fn read(stdout: Stdout, script: &[u8], calls: usize, printed: usize, many: usize) -> io::Result<()>
     requires { 1 ≤ many }
 {
     if calls > script.len() {
-        return;
+        return Ok(());
     }
-    read_pages(&script[..calls], many);
+    read_pages(stdout, &script[..calls], many)?;
     if printed > script.len() {
-        return;
+        return Ok(());
     }
-    read_text(&script[..printed]);
+    read_text(stdout, &script[..printed])
 }
 
-fn main() {
-    let mut script = io::large_buffer();
+fn main(rt: HostRuntime) -> io::Result<()> {
+    let stdout = rt.stdout();
+    let mut script = [0u8; 65536];
     let records = put_records(&mut script);
     let one = put_map(&mut script, records, 0, 4096, 1024);
     let printed = put_print(&mut script, one);
-    read(&script, one, printed, 1024);
+    read(stdout, &script, one, printed, 1024)?;
     let all = put_segments(&mut script, records);
     let again = put_print(&mut script, all);
-    read(&script, all, again, 2032);
+    read(stdout, &script, all, again, 2032)
 }

@@ -1,30 +1,33 @@
 // Reads a script from standard input, and after it each compartment's stream, permissions, regions and segments by pages of
 // several lengths, over the exported functions. A line for each page says what was asked and answered; its groups follow.
+#![tactic(auto)]
+
 ghost use Rattle.std.specs.Prelude.{◌≤◌};
 
 use definitions::RECORD_LEN;
-use libc::{STDIN_FILENO, STDOUT_FILENO};
+use std::io;
+use std::io::Stdout;
 
-fn show(n: u64) {
+fn show(stdout: Stdout, n: u64) {
     let mut text = [0u8; 21];
     columns::write(&mut text, 0, 21, n);
-    io::write_all(STDOUT_FILENO, &text);
+    let _ = stdout.write_all(&text);
 }
 
-fn end() {
-    io::write_all(STDOUT_FILENO, b"\n");
+fn end(stdout: Stdout) {
+    let _ = stdout.write_all(b"\n");
 }
 
 // Groups of a width, a line each.
-fn show_groups(numbers: &[u64], width: usize) {
+fn show_groups(stdout: Stdout, numbers: &[u64], width: usize) {
     let mut i = 0;
     let mut column = 0;
     while i < numbers.len() {
-        show(numbers[i]);
+        show(stdout, numbers[i]);
         i += 1;
         column += 1;
         if column == width {
-            end();
+            end(stdout);
             column = 0;
         }
     }
@@ -61,22 +64,29 @@ fn read(script: &[u8], width: usize, compartment: u64, from: usize, out: &mut [u
 }
 
 // One line: the width, the compartment, the place, the numbers that the slice takes, and the answer.
-fn tell(width: usize, compartment: u64, from: usize, room: usize, answer: u64) {
-    show(width as u64);
-    show(compartment);
-    show(from as u64);
-    show(room as u64);
-    show(answer);
-    end();
+fn tell(stdout: Stdout, width: usize, compartment: u64, from: usize, room: usize, answer: u64) {
+    show(stdout, width as u64);
+    show(stdout, compartment);
+    show(stdout, from as u64);
+    show(stdout, room as u64);
+    show(stdout, answer);
+    end(stdout)
 }
 
 // One page, as long as out: how many groups it has, or 0 where it is the last.
-fn read_page(script: &[u8], width: usize, compartment: u64, from: usize, out: &mut [u64]) -> usize
+fn read_page(
+    stdout: Stdout,
+    script: &[u8],
+    width: usize,
+    compartment: u64,
+    from: usize,
+    out: &mut [u64],
+) -> usize
     ensures { result ≤ 320 }
 {
     let room = out.len();
     let answer = read(script, width, compartment, from, out);
-    tell(width, compartment, from, room, answer);
+    tell(stdout, width, compartment, from, room, answer);
     if answer > 320 {
         return 0;
     }
@@ -85,7 +95,7 @@ fn read_page(script: &[u8], width: usize, compartment: u64, from: usize, out: &m
     if n > room {
         return 0;
     }
-    show_groups(&out[..n], width);
+    show_groups(stdout, &out[..n], width);
     if room - n >= width {
         return 0;
     }
@@ -93,11 +103,11 @@ fn read_page(script: &[u8], width: usize, compartment: u64, from: usize, out: &m
 }
 
 // All pages of one length, from 0 on, each behind the last, up to one that is not full.
-fn read_all(script: &[u8], width: usize, compartment: u64, out: &mut [u64]) {
+fn read_all(stdout: Stdout, script: &[u8], width: usize, compartment: u64, out: &mut [u64]) {
     let mut from: usize = 0;
     let mut turns: usize = 1024;
     while turns > 0 {
-        let many = read_page(script, width, compartment, from, out);
+        let many = read_page(stdout, script, width, compartment, from, out);
         if many == 0 {
             return;
         }
@@ -107,49 +117,51 @@ fn read_all(script: &[u8], width: usize, compartment: u64, out: &mut [u64]) {
 }
 
 // A list by pages of five lengths.
-fn read_list(script: &[u8], width: usize, compartment: u64) {
+fn read_list(stdout: Stdout, script: &[u8], width: usize, compartment: u64) {
     let mut none = [0u64; 0];
     let mut seven = [0u64; 7];
     let mut ten = [0u64; 10];
     let mut more = [0u64; 33];
     let mut most = [0u64; 320];
-    read_all(script, width, compartment, &mut none);
-    read_all(script, width, compartment, &mut seven);
-    read_all(script, width, compartment, &mut ten);
-    read_all(script, width, compartment, &mut more);
-    read_all(script, width, compartment, &mut most);
+    read_all(stdout, script, width, compartment, &mut none);
+    read_all(stdout, script, width, compartment, &mut seven);
+    read_all(stdout, script, width, compartment, &mut ten);
+    read_all(stdout, script, width, compartment, &mut more);
+    read_all(stdout, script, width, compartment, &mut most)
 }
 
 // Every list of a compartment.
-fn read_lists(script: &[u8], compartment: u64) {
-    read_list(script, 5, compartment);
-    read_list(script, 3, compartment);
-    read_list(script, RECORD_LEN, compartment);
-    read_list(script, 4, compartment);
+fn read_lists(stdout: Stdout, script: &[u8], compartment: u64) {
+    read_list(stdout, script, 5, compartment);
+    read_list(stdout, script, 3, compartment);
+    read_list(stdout, script, RECORD_LEN, compartment);
+    read_list(stdout, script, 4, compartment)
 }
 
 // Those of every compartment, and of one that there is not.
-fn read_compartments(script: &[u8]) {
+fn read_compartments(stdout: Stdout, script: &[u8]) {
     let mut k: u64 = 0;
     while k < 9 {
-        read_lists(script, k);
+        read_lists(stdout, script, k);
         k += 1;
     }
 }
 
 // Whether guest ranges of growing size overlap a segment of compartment 0.
-fn ask_overlaps(script: &[u8]) {
+fn ask_overlaps(stdout: Stdout, script: &[u8]) {
     let mut size: u64 = 0;
     while size < 20 {
-        show(exports::overlaps_after(script, 0, 995, size));
-        end();
+        show(stdout, exports::overlaps_after(script, 0, 995, size));
+        end(stdout);
         size += 1;
     }
 }
 
-fn main() {
-    let mut text = io::large_buffer();
-    let n = io::read_full(STDIN_FILENO, &mut text);
-    read_compartments(&text[..n]);
-    ask_overlaps(&text[..n]);
+fn main(rt: HostRuntime) -> io::Result<()> {
+    let stdout = rt.stdout();
+    let mut text = [0u8; 65536];
+    let n = streams::read_full(&mut rt.stdin(), &mut text)?;
+    read_compartments(stdout, &text[..n]);
+    ask_overlaps(stdout, &text[..n]);
+    Ok(())
 }

@@ -1,12 +1,14 @@
 // Replays recorded scripts from standard input, each behind a line with the number of its bytes. For each, from empty tables, it
 // writes the script's output, and then the regions, segments and stream that the script leaves to each compartment.
+#![tactic(auto)]
+
 ghost use Rattle.std.specs.Prelude.{◌≤◌, length};
-ghost use Rattle.io.specs.Counts.{IsPrefixLen};
+ghost use Rattle.streams.specs.Counts.{IsPrefixLen};
 ghost use Rattle.definitions.specs.Pages.{record_len};
 
 use columns::Column;
 use definitions::RECORD_LEN;
-use libc::{STDIN_FILENO, STDOUT_FILENO};
+use std::io::{self, Stdin, Stdout};
 
 // Where the last of so many lines ends.
 fn end_of(text: &[u8], lines: usize) -> usize
@@ -27,15 +29,15 @@ fn end_of(text: &[u8], lines: usize) -> usize
 }
 
 // The output of a script: as many whole lines as the buffer takes.
-fn write_output(script: &[u8]) {
-    let mut out = io::large_buffer();
+fn write_output(stdout: Stdout, script: &[u8]) -> io::Result<()> {
+    let mut out = [0u8; 65536];
     let lines = exports::run_script(script, &mut out);
     let end = end_of(&out, lines);
-    io::write_all(STDOUT_FILENO, &out[..end]);
+    stdout.write_all(&out[..end])
 }
 
 // A line of numbers, put together first so that it is one call and not one for each number.
-fn write_line(numbers: &[u64])
+fn write_line(stdout: Stdout, numbers: &[u64]) -> io::Result<()>
     requires { length numbers.now ≤ record_len }
 {
     // all line ends at first: one is left behind the last number
@@ -46,107 +48,118 @@ fn write_line(numbers: &[u64])
         i += 1;
     }
     let end = 21 * i + 1;
-    io::write_all(STDOUT_FILENO, &line[..end]);
+    stdout.write_all(&line[..end])
 }
 
 // So many groups of a width, a line each.
-fn write_groups(numbers: &[u64], width: usize, many: u64)
+fn write_groups(stdout: Stdout, numbers: &[u64], width: usize, many: u64) -> io::Result<()>
     requires { width ≤ record_len }
 {
     let mut from = 0;
     let mut left = many;
     while left > 0 {
         if numbers.len() - from < width {
-            return;
+            return Ok(());
         }
         let to = from + width;
-        write_line(&numbers[from..to]);
+        write_line(stdout, &numbers[from..to])?;
         from = to;
         left -= 1;
     }
+    Ok(())
 }
 
 // A list under a line that says whose it is, how wide and how long; nothing of one that is empty.
-fn write_list(compartment: u64, width: usize, answer: u64, numbers: &[u64])
+fn write_list(
+    stdout: Stdout,
+    compartment: u64,
+    width: usize,
+    answer: u64,
+    numbers: &[u64],
+) -> io::Result<()>
     requires { width ≤ record_len }
 {
     if answer == 0 {
-        return;
+        return Ok(());
     }
     // more groups than the slice has numbers: a refusal
     if answer > numbers.len() as u64 {
-        return;
+        return Ok(());
     }
     let head = [compartment, width as u64, answer];
-    write_line(&head);
-    write_groups(numbers, width, answer);
+    write_line(stdout, &head)?;
+    write_groups(stdout, numbers, width, answer)
 }
 
 // The three lists of a compartment, each read at one go.
-fn write_lists(script: &[u8], compartment: u64) {
+fn write_lists(stdout: Stdout, script: &[u8], compartment: u64) -> io::Result<()> {
     let mut numbers = [0u64; 1024 * RECORD_LEN];
     let regions = exports::regions_page(script, compartment, 0, &mut numbers);
-    write_list(compartment, RECORD_LEN, regions, &numbers);
+    write_list(stdout, compartment, RECORD_LEN, regions, &numbers)?;
     let segments = exports::segments_page(script, compartment, 0, &mut numbers);
-    write_list(compartment, 4, segments, &numbers);
+    write_list(stdout, compartment, 4, segments, &numbers)?;
     let stream = exports::stream_page(script, compartment, 0, &mut numbers);
-    write_list(compartment, 5, stream, &numbers);
+    write_list(stdout, compartment, 5, stream, &numbers)
 }
 
 // All that is written of one script.
-fn replay(script: &[u8]) {
-    write_output(script);
+fn replay(stdout: Stdout, script: &[u8]) -> io::Result<()> {
+    write_output(stdout, script)?;
     let mut k: u64 = 0;
     while k < 8 {
-        write_lists(script, k);
+        write_lists(stdout, script, k)?;
         k += 1;
     }
+    Ok(())
 }
 
 // How many bytes the next script has; malformed also where the input ends.
-fn next_size() -> Column {
+fn next_size(stdin: &mut Stdin) -> io::Result<Column> {
     let mut header = [0u8; 22];
-    let n = io::read_full(STDIN_FILENO, &mut header);
+    let n = streams::read_full(stdin, &mut header)?;
     if n < 22 {
-        return Column::Malformed;
+        return Ok(Column::Malformed);
     }
     if header[21] != b'\n' {
-        return Column::Malformed;
+        return Ok(Column::Malformed);
     }
-    columns::read(&header[..21])
+    Ok(columns::read(&header[..21]))
 }
 
 // Replays the script that fills a slice, or answers that the input ends before.
-fn replay_in(text: &mut [u8]) -> bool {
-    let n = io::read_full(STDIN_FILENO, text);
+fn replay_in(stdin: &mut Stdin, stdout: Stdout, text: &mut [u8]) -> io::Result<bool> {
+    let n = streams::read_full(stdin, text)?;
     if n < text.len() {
-        return false;
+        return Ok(false);
     }
-    replay(text);
-    true
+    replay(stdout, text)?;
+    Ok(true)
 }
 
 // Replays the next script, or answers that there is none.
-fn replay_next() -> bool {
-    let next = next_size();
+fn replay_next(stdin: &mut Stdin, stdout: Stdout) -> io::Result<bool> {
+    let next = next_size(stdin)?;
     let Column::Number(size) = next else {
-        return false;
+        return Ok(false);
     };
     if size > 65536 {
-        return false;
+        return Ok(false);
     }
-    let mut text = io::large_buffer();
+    let mut text = [0u8; 65536];
     let n = size as usize;
-    replay_in(&mut text[..n])
+    replay_in(stdin, stdout, &mut text[..n])
 }
 
-fn main() {
+fn main(rt: HostRuntime) -> io::Result<()> {
+    let mut stdin = rt.stdin();
+    let stdout = rt.stdout();
     // more turns than any input has scripts, so that the loop is seen to end
     let mut turns = u64::MAX;
     while turns > 0 {
-        if !replay_next() {
-            return;
+        if !replay_next(&mut stdin, stdout)? {
+            return Ok(());
         }
         turns -= 1;
     }
+    Ok(())
 }
