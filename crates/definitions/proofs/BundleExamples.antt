@@ -10,7 +10,7 @@ use Rattle.definitions.specs.Calls.{start, after_from, after}
 use Rattle.definitions.specs.Bundles.{bundle_of, calls_in, bundle_answer, bundle_leaves}
 use Rattle.definitions.specs.Layouts.{two}
 use Rattle.definitions.specs.declared.answer.Refusal.TheVariants.{NoCompartment, OutOfMemory, EndedBefore, Malformed, BundleTooLong}
-use Rattle.definitions.specs.declared.answer.Answer.TheVariants.{Accepted, Refused}
+use Rattle.std.specs.Prelude.{Ok, Err}
 use Rattle.definitions.specs.declared.call.Call.{Call}
 use Rattle.definitions.specs.declared.call.Call.TheVariants.{Allow}
 use Rattle.definitions.proofs.Tables.{start_on, after_on, in_turn_on}
@@ -31,7 +31,7 @@ on-tables before ns h g =
 half : List ℕ
 half = 0 ∷ 40 ∷ 50 ∷ 1 ∷ 1 ∷ 12 ∷ 25 ∷ 1 ∷ []
 
-half-refused : bundle_answer (after two) 0 (bundle_of 0 half) ≡ Refused EndedBefore
+half-refused : bundle_answer (after two) 0 (bundle_of 0 half) ≡ Err EndedBefore
 unfolding opened half bundle_of calls_in in_turn_on
 half-refused = on-tables two half refl refl
 
@@ -42,14 +42,14 @@ half-left = refused-bundle-alters-nothing (after two) 0 (bundle_of 0 half) (rw h
 moves : List ℕ
 moves = 0 ∷ 0 ∷ 10 ∷ 1 ∷ 1 ∷ 0 ∷ 10 ∷ 1 ∷ 0 ∷ 20 ∷ 30 ∷ 1 ∷ []
 
-moves-accepted : bundle_answer (after (Allow 0 1 ∷ [])) 0 (bundle_of 0 moves) ≡ Accepted 1
+moves-accepted : bundle_answer (after (Allow 0 1 ∷ [])) 0 (bundle_of 0 moves) ≡ Ok 1
 unfolding opened moves bundle_of calls_in in_turn_on
 moves-accepted = on-tables (Allow 0 1 ∷ []) moves refl refl
 
 grows-first : List ℕ
 grows-first = 0 ∷ 0 ∷ 10 ∷ 1 ∷ 0 ∷ 20 ∷ 30 ∷ 1 ∷ 1 ∷ 0 ∷ 10 ∷ 1 ∷ []
 
-grows-first-refused : bundle_answer (after (Allow 0 1 ∷ [])) 0 (bundle_of 0 grows-first) ≡ Refused OutOfMemory
+grows-first-refused : bundle_answer (after (Allow 0 1 ∷ [])) 0 (bundle_of 0 grows-first) ≡ Err OutOfMemory
 unfolding opened grows-first bundle_of calls_in in_turn_on
 grows-first-refused = on-tables (Allow 0 1 ∷ []) grows-first refl refl
 
@@ -58,7 +58,7 @@ grows-first-refused = on-tables (Allow 0 1 ∷ []) grows-first refl refl
 third-kind : List ℕ
 third-kind = 0 ∷ 40 ∷ 50 ∷ 1 ∷ 2 ∷ 0 ∷ 10 ∷ 1 ∷ 1 ∷ 12 ∷ 25 ∷ 1 ∷ []
 
-third-kind-refused : bundle_answer (after two) 0 (bundle_of 0 third-kind) ≡ Refused Malformed
+third-kind-refused : bundle_answer (after two) 0 (bundle_of 0 third-kind) ≡ Err Malformed
 unfolding opened third-kind bundle_of calls_in in_turn_on
 third-kind-refused = on-tables two third-kind refl refl
 
@@ -68,14 +68,14 @@ third-kind-left = refused-bundle-alters-nothing (after two) 0 (bundle_of 0 third
 unfinished : List ℕ
 unfinished = 0 ∷ 40 ∷ 50 ∷ 1 ∷ 1 ∷ []
 
-unfinished-refused : bundle_answer (after two) 0 (bundle_of 0 unfinished) ≡ Refused Malformed
+unfinished-refused : bundle_answer (after two) 0 (bundle_of 0 unfinished) ≡ Err Malformed
 unfolding opened unfinished bundle_of calls_in in_turn_on
 unfinished-refused = on-tables two unfinished refl refl
 
 refused-before : List ℕ
 refused-before = 1 ∷ 12 ∷ 25 ∷ 1 ∷ 2 ∷ []
 
-before-refused : bundle_answer (after two) 0 (bundle_of 0 refused-before) ≡ Refused EndedBefore
+before-refused : bundle_answer (after two) 0 (bundle_of 0 refused-before) ≡ Err EndedBefore
 unfolding opened refused-before bundle_of calls_in in_turn_on
 before-refused = on-tables two refused-before refl refl
 
@@ -83,19 +83,19 @@ before-refused = on-tables two refused-before refl refl
 many : ℕ → List ℕ
 many n = replicate (4 * n) 0
 
-thirty_two : bundle_answer (after []) 0 (bundle_of 0 (many 32)) ≡ Accepted 0
+thirty_two : bundle_answer (after []) 0 (bundle_of 0 (many 32)) ≡ Ok 0
 unfolding opened many bundle_of calls_in in_turn_on
 thirty_two = on-tables [] (many 32) refl refl
 
-thirty-three : bundle_answer (after []) 0 (bundle_of 0 (many 33)) ≡ Refused BundleTooLong
+thirty-three : bundle_answer (after []) 0 (bundle_of 0 (many 33)) ≡ Err BundleTooLong
 unfolding opened many bundle_of calls_in in_turn_on
 thirty-three = on-tables [] (many 33) refl refl
 
 -- 24 counts a last group that lacks numbers, and is asked before any call's turn
-thirty-two-and-more : bundle_answer (after []) 0 (bundle_of 0 (0 ∷ many 32)) ≡ Refused BundleTooLong
+thirty-two-and-more : bundle_answer (after []) 0 (bundle_of 0 (0 ∷ many 32)) ≡ Err BundleTooLong
 unfolding opened many bundle_of calls_in in_turn_on
 thirty-two-and-more = on-tables [] (0 ∷ many 32) refl refl
 
-nowhere : bundle_answer (after []) 8 (bundle_of 8 (many 33)) ≡ Refused NoCompartment
+nowhere : bundle_answer (after []) 8 (bundle_of 8 (many 33)) ≡ Err NoCompartment
 unfolding bundle_answer ask
 nowhere = refl

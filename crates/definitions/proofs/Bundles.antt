@@ -14,8 +14,8 @@ use Rattle.definitions.specs.Calls.{State, start, compartment, answer, next, aft
 use Rattle.definitions.specs.Bundles.{bundled, bundle_of, calls_in, and_then, told, in_turn, bundle_answer, counted, bundle_leaves, Step, single, bundle, step_answer, step_calls, step_leaves, done_from, calls_from, done, calls_of, judged_from, judged, step_fed, steps_fed}
 use Rattle.definitions.specs.Script.{Line, call, malformed, left}
 use Rattle.definitions.specs.declared.answer.Refusal.TheVariants.{NoCompartment, Malformed, BundleTooLong}
-use Rattle.definitions.specs.declared.answer.Answer.{Answer}
-use Rattle.definitions.specs.declared.answer.Answer.TheVariants.{Accepted, Refused}
+use Rattle.definitions.specs.Answers.{Answer}
+use Rattle.std.specs.Prelude.{Ok, Err}
 use Rattle.definitions.specs.declared.call.Call.{Call}
 use Rattle.definitions.proofs.Bools.{or-false, or_assoc, one_bit}
 use Rattle.definitions.proofs.Passed.{passed}
@@ -37,24 +37,24 @@ all-accepted-snoc s (b ∷ cs) c h g = (h.0, all-accepted-snoc (next s b) cs c h
 -- Answers in turn
 
 both-accepted : (x y : Answer) → accepted (and_then x y) ≡ true → (accepted x ≡ true) × (accepted y ≡ true)
-both-accepted (Accepted v) (Accepted w) h = (refl, refl)
-both-accepted (Accepted v) (Refused r) h = absurd (true≢false (sym h))
-both-accepted (Refused r) y h = absurd (true≢false (sym h))
+both-accepted (Ok v) (Ok w) h = (refl, refl)
+both-accepted (Ok v) (Err r) h = absurd (true≢false (sym h))
+both-accepted (Err r) y h = absurd (true≢false (sym h))
 
 and-accepted : (x y : Answer) → accepted x ≡ true → accepted y ≡ true → accepted (and_then x y) ≡ true
-and-accepted (Accepted v) (Accepted w) h g = refl
-and-accepted (Accepted v) (Refused r) h g = absurd (true≢false (sym g))
-and-accepted (Refused r) y h g = absurd (true≢false (sym h))
+and-accepted (Ok v) (Ok w) h g = refl
+and-accepted (Ok v) (Err r) h g = absurd (true≢false (sym g))
+and-accepted (Err r) y h g = absurd (true≢false (sym h))
 
 -- the first refusal is the answer, whatever comes after it
 refused-stays : (x y : Answer) → accepted x ≡ false → and_then x y ≡ x
-refused-stays (Accepted v) y h = absurd (true≢false h)
-refused-stays (Refused r) y h = refl
+refused-stays (Ok v) y h = absurd (true≢false h)
+refused-stays (Err r) y h = refl
 
 refused-comes : (x y : Answer) → accepted x ≡ true → accepted y ≡ false → and_then x y ≡ y
-refused-comes (Accepted v) (Accepted w) h g = absurd (true≢false g)
-refused-comes (Accepted v) (Refused r) h g = refl
-refused-comes (Refused r) y h g = absurd (true≢false (sym h))
+refused-comes (Ok v) (Ok w) h g = absurd (true≢false g)
+refused-comes (Ok v) (Err r) h g = refl
+refused-comes (Err r) y h g = absurd (true≢false (sym h))
 
 -- all groups are of the form
 abbrev pub Formed : List Line → Type 0
@@ -95,15 +95,15 @@ some-change-snoc s (b ∷ cs) c =
     rw (some-change-snoc (next s b) cs c)
     (or_assoc (value_of (answer s b) =? 1) (some_change (next s b) cs) (value_of (answer (after_from (next s b) cs) c) =? 1))
 
-turn-change : (s : State) (calls : List Call) → AllAccepted s calls → in_turn s (map call calls) ≡ Accepted (bit (some_change s calls))
+turn-change : (s : State) (calls : List Call) → AllAccepted s calls → in_turn s (map call calls) ≡ Ok (bit (some_change s calls))
 unfolding in_turn
 turn-change s [] h = refl
 turn-change s (c ∷ cs) h = rw (turn-change (next s c) cs h.1) (go (answer s c) h.0)
   where
     go : (x : Answer) → accepted x ≡ true
-        → and_then x (Accepted (bit (some_change (next s c) cs))) ≡ Accepted (bit ((value_of x =? 1) || some_change (next s c) cs))
-    go (Accepted v) g = rw one_bit
-    go (Refused r) g = absurd (true≢false (sym g))
+        → and_then x (Ok (bit (some_change (next s c) cs))) ≡ Ok (bit ((value_of x =? 1) || some_change (next s c) cs))
+    go (Ok v) g = rw one_bit
+    go (Err r) g = absurd (true≢false (sym g))
 
 -- what the reckoning is fed of calls that are all accepted
 accepted-fed : (s : State) (calls : List Call) → AllAccepted s calls → fed_from s calls ≡ map (λ c. (c, true)) calls
@@ -115,11 +115,11 @@ accepted-fed s (c ∷ cs) h = ap₂ (λ (b : Bool) (l : List (Call × Bool)). (c
 
 module _ (s : State) (k : ℕ) (groups : List Line) where
   -- 1, then 24
-  pub bundle-nowhere : 8 ≤ k → bundle_answer s k groups ≡ Refused NoCompartment
+  pub bundle-nowhere : 8 ≤ k → bundle_answer s k groups ≡ Err NoCompartment
   unfolding bundle_answer ask
   bundle-nowhere l = rw (le-ltb k 8 l)
 
-  pub bundle-too-long : k < 8 → 32 < length groups → bundle_answer s k groups ≡ Refused BundleTooLong
+  pub bundle-too-long : k < 8 → 32 < length groups → bundle_answer s k groups ≡ Err BundleTooLong
   unfolding bundle_answer ask
   bundle-too-long l m = rw (lt-ltb k 8 l, lt-leb (length groups) 32 m)
 
@@ -152,7 +152,7 @@ module _ (s : State) (k : ℕ) (groups : List Line) where
   refused-bundle-alters-nothing h = simp h
 
   -- the change is 1 if any was
-  pub change-if-any : accepted (bundle_answer s k groups) ≡ true → bundle_answer s k groups ≡ Accepted (bit (some_change s (calls_in groups)))
+  pub change-if-any : accepted (bundle_answer s k groups) ≡ true → bundle_answer s k groups ≡ Ok (bit (some_change s (calls_in groups)))
   change-if-any h =
       let p = bundle-accepted h in
       in-turn p.0 p.1 ∙ ap (in_turn s) p.2 ∙ turn-change s (calls_in groups) p.3
@@ -194,7 +194,7 @@ module _ (s : State) (k : ℕ) (cs : List Call) (gs : List Line) (l : k < 8) (h 
 
   -- of what is not of the form that is 17
   pub first-malformed-is-17 : length (map call cs ++ (malformed ∷ gs)) ≤ 32
-      → bundle_answer s k (map call cs ++ (malformed ∷ gs)) ≡ Refused Malformed
+      → bundle_answer s k (map call cs ++ (malformed ∷ gs)) ≡ Err Malformed
   first-malformed-is-17 m = first-refused-is-the-answer malformed m refl
 
 -- Every run: its steps leave, and feed to the reckoning, what the calls do that they count as

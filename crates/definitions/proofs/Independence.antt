@@ -15,8 +15,8 @@ use Rattle.definitions.specs.Script.{Line, call as says, malformed}
 use Rattle.definitions.specs.Bundles.{bundled, bundle_of, calls_in, and_then, in_turn, bundle_answer, counted, Step, single, bundle, step_answer, step_calls, step_leaves, done_from, done}
 use Rattle.definitions.specs.Independence.{allows, own, seen_from, seen, got_from, got, SameFor}
 use Rattle.definitions.specs.declared.answer.Refusal.TheVariants.{NoCompartment, Malformed, PoolExceeded, BundleTooLong}
-use Rattle.definitions.specs.declared.answer.Answer.{Answer}
-use Rattle.definitions.specs.declared.answer.Answer.TheVariants.{Accepted, Refused}
+use Rattle.definitions.specs.Answers.{Answer}
+use Rattle.std.specs.Prelude.{Ok, Err}
 use Rattle.definitions.specs.declared.call.Call.{Call}
 use Rattle.definitions.specs.declared.call.Call.TheVariants.{Add, Remove, Refcount, Overlaps, Map, Unmap, UnmapGpa, Permissions, Remap, Mappings, Allow}
 use Rattle.definitions.proofs.Reckoned.{set_same, next-accepted, next-allowed, next-refused, length-next, next-at, length-after_from, start-empty}
@@ -34,9 +34,9 @@ leaves_alone c x = if accepted (alone c x) then reckon x.0 c else c
 
 -- the same of a bundle's calls in turn
 unfoldable pub turn_alone : ℕ → Compartment → List Line → Answer
-turn_alone m c [] = Accepted 0
+turn_alone m c [] = Ok 0
 turn_alone m c (says x ∷ gs) = and_then (alone c (x, m)) (turn_alone m (leaves_alone c (x, m)) gs)
-turn_alone m c (malformed ∷ gs) = Refused Malformed
+turn_alone m c (malformed ∷ gs) = Err Malformed
 
 unfoldable pub after_alone : ℕ → Compartment → List Call → Compartment
 after_alone m c [] = c
@@ -336,11 +336,11 @@ seen_alike : seen 0 [] ≡ seen 0 (single (Allow 1 127) ∷ [])
 unfolding seen seen_from own compartment_of
 seen_alike = refl
 
-refused-first : answer (after []) (Allow 0 129) ≡ Refused PoolExceeded
+refused-first : answer (after []) (Allow 0 129) ≡ Err PoolExceeded
 unfolding after after_from start answer answer_in compartment_of on_allow ask others together
 refused-first = refl
 
-had-then : answer (after (Allow 1 127 ∷ [])) (Allow 0 129) ≡ Accepted 0
+had-then : answer (after (Allow 1 127 ∷ [])) (Allow 0 129) ≡ Ok 0
 unfolding after asks_on after_on next_on start_on answer_on allow_on leaves no_table allowed compartment_of ask others together
 had-then =
     asks-is (after (Allow 1 127 ∷ [])) (after_on start_on (Allow 1 127 ∷ []))

@@ -22,7 +22,7 @@ use Rattle.definitions.specs.declared.region.Values.{Values}
 use Rattle.definitions.specs.declared.region.Region.{Region}
 use Rattle.definitions.specs.declared.remapper.Segment.{Segment}
 use Rattle.definitions.specs.declared.remapper.Mapping.{Mapping}
-use Rattle.definitions.specs.declared.answer.Answer.TheVariants.{Accepted, Refused}
+use Rattle.std.specs.Prelude.{Ok, Err}
 use Rattle.definitions.specs.declared.answer.Refusal.TheVariants.{OutOfMemory}
 use Rattle.definitions.specs.declared.call.Call.{Call}
 use Rattle.definitions.specs.declared.call.Call.TheVariants.{Add, Remove, Refcount, Overlaps, Map, Unmap, UnmapGpa, Permissions, Remap, Mappings, Allow}
@@ -125,7 +125,7 @@ module _ (a e : HostAddr) (l : a.0 < e.0) where
       (joined-last (raise k nothing) rs b h)
 
   -- it is accepted while one more is allowed, and a change
-  add-last : (m : ℕ) (rs : List Region) → EndsBelow a.0 rs → length rs + 1 ≤ m → add_on m rs a e 1 ≡ Accepted 1
+  add-last : (m : ℕ) (rs : List Region) → EndsBelow a.0 rs → length rs + 1 ≤ m → add_on m rs a e 1 ≡ Ok 1
   unfolding add_on ranged ask new_records_on add_change_on
   add-last m rs b h =
       simp (
@@ -173,7 +173,7 @@ crowded n = record {
 }
 
 module _ (n y : ℕ) (e : y ≡ 2 * n) (l : n < 1024) where
-  crowded-asks : asks_on (crowded n) (add y (y + 1) 1) ≡ Accepted 1
+  crowded-asks : asks_on (crowded n) (add y (y + 1) 1) ≡ Ok 1
   unfolding asks_on answer_on compartment_of crowded ask host
   crowded-asks = add-last (host y) (host (y + 1)) (omega arith) 1024 (evens 0 n) (evens-below y 0 n (omega arith)) (omega (arith, length-evens 0 n))
 
@@ -225,7 +225,7 @@ evens-shown x zero = refl
 evens-shown x (suc n) = simp (eq-eqb x x refl, eq-eqb (x + 1) (x + 1) refl) (evens-shown (x + 2) n)
 
 module _ (k : ℕ) (e : suc (suc k) ≡ 1024) where
-  refused : asks_on (crowded (suc (suc k))) (add 0 2 1) ≡ Refused OutOfMemory
+  refused : asks_on (crowded (suc (suc k))) (add 0 2 1) ≡ Err OutOfMemory
   unfolding asks_on answer_on compartment_of crowded ask add_on ranged new_records_on gaps hole host region evens
   refused = simp (evens-raise, evens-unsplit, lt-leb (length (evens 0 (suc (suc k))) + 1) 1024 (omega (arith, length-evens 0 (suc (suc k)))))
 

@@ -1,6 +1,5 @@
 pub mod Bools
 pub mod RightLaws
-pub mod Methods
 pub mod Lists
 pub mod RegionLaws
 pub mod RunLaws

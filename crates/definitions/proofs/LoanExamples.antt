@@ -5,7 +5,7 @@ use mathlib.Core.List.{List, [], ◌∷◌}
 use Rattle.definitions.specs.Tests.{host, all}
 use Rattle.definitions.specs.Calls.{start, answer, after_from, after}
 use Rattle.definitions.specs.declared.answer.Refusal.TheVariants.{OutOfMemory}
-use Rattle.definitions.specs.declared.answer.Answer.TheVariants.{Accepted, Refused}
+use Rattle.std.specs.Prelude.{Ok, Err}
 use Rattle.definitions.specs.declared.call.Call.{Call}
 use Rattle.definitions.specs.declared.call.Call.TheVariants.{Add, Remove, Allow}
 use Rattle.definitions.proofs.Tables.{start_on, asks_on, after_on}
@@ -24,7 +24,7 @@ held-so : List Call
 held-so = Add 0 (host 0) (host 10) 1 ∷ Add 0 (host 0) (host 5) 1 ∷ Allow 0 2 ∷ []
 
 -- a loan of [5,10) joins them, at a peak of two
-lent-at-full : answer (after held-so) (Add 0 (host 5) (host 10) 1) ≡ Accepted 0
+lent-at-full : answer (after held-so) (Add 0 (host 5) (host 10) 1) ≡ Ok 0
 unfolding opened held-so
 lent-at-full = on-tables held-so (Add 0 (host 5) (host 10) 1) refl
 
@@ -32,6 +32,6 @@ lent-at-full = on-tables held-so (Add 0 (host 5) (host 10) 1) refl
 shrunk : List Call
 shrunk = Add 0 (host 0) (host 10) 1 ∷ Add 0 (host 0) (host 5) 1 ∷ Allow 0 2 ∷ Add 0 (host 5) (host 10) 1 ∷ Allow 0 1 ∷ []
 
-own-allowance-in-between : answer (after shrunk) (Remove 0 (host 5) (host 10) 1) ≡ Refused OutOfMemory
+own-allowance-in-between : answer (after shrunk) (Remove 0 (host 5) (host 10) 1) ≡ Err OutOfMemory
 unfolding opened shrunk
 own-allowance-in-between = on-tables shrunk (Remove 0 (host 5) (host 10) 1) refl

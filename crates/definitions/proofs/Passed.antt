@@ -15,8 +15,8 @@ use Rattle.definitions.specs.declared.addr.HostAddr.{HostAddr}
 use Rattle.definitions.specs.declared.addr.GuestAddr.{GuestAddr}
 use Rattle.definitions.specs.declared.answer.Refusal.{Refusal}
 use Rattle.definitions.specs.declared.answer.Refusal.TheVariants.{InvalidMemOps, InvalidRange, NoSlot}
-use Rattle.definitions.specs.declared.answer.Answer.{Answer}
-use Rattle.definitions.specs.declared.answer.Answer.TheVariants.{Accepted, Refused}
+use Rattle.definitions.specs.Answers.{Answer}
+use Rattle.std.specs.Prelude.{Ok, Err}
 use Rattle.definitions.proofs.SegmentLaws.{Good, Singles}
 use Rattle.definitions.proofs.Bools.{both}
 
@@ -30,7 +30,7 @@ unfolding ask
 passed [] x h = (tt, h)
 passed (q ∷ qs) x h = go q.0 refl h (λ k. passed qs x k)
   where
-    go : (b : Bool) → q.0 ≡ b → accepted (if b then ask qs x else Refused q.1) ≡ true
+    go : (b : Bool) → q.0 ≡ b → accepted (if b then ask qs x else Err q.1) ≡ true
         → (accepted (ask qs x) ≡ true → Passed qs × (accepted x ≡ true)) → Passed (q ∷ qs) × (accepted x ≡ true)
     go true d k ih = let p = ih k in ((d, p.0), p.1)
     go false d k ih = absurd (true≢false (sym k))
@@ -46,7 +46,7 @@ pub ranged-asked : (a e : HostAddr) (r : ℕ) (x : Answer) → r < 64 → a.0 �
 unfolding ranged
 ranged-asked a e r x l i h = asked _ _ (lt-ltb r 64 l, (le-leb a.0 e.0 i, tt)) (go (a.0 =? e.0) refl)
   where
-    go : (t : Bool) → (a.0 =? e.0) ≡ t → accepted (if a.0 =? e.0 then Accepted 0 else x) ≡ true
+    go : (t : Bool) → (a.0 =? e.0) ≡ t → accepted (if a.0 =? e.0 then Ok 0 else x) ≡ true
     go true d = simp d
     go false d = simp d (h d)
 
@@ -73,7 +73,7 @@ module _ (m : ℕ) (c : Compartment) (a e : HostAddr) (r : ℕ) where
       → (r < 64) × (a.0 ≤ e.0) × ((a.0 =? e.0) ≡ false → accepted x ≡ true)
   unfolding ranged
   ranged-passed x h =
-      let p = passed ((r <? 64, InvalidMemOps) ∷ (a.0 ≤? e.0, InvalidRange) ∷ []) (if a.0 =? e.0 then Accepted 0 else x) h in
+      let p = passed ((r <? 64, InvalidMemOps) ∷ (a.0 ≤? e.0, InvalidRange) ∷ []) (if a.0 =? e.0 then Ok 0 else x) h in
       (ltb-true r 64 p.0.0, leb-true a.0 e.0 p.0.1.0, λ d. simp d at p.1)
 
   pub add-passed : accepted (on_add m c a e r) ≡ true → AddPassed
@@ -127,7 +127,7 @@ map-passed c h g n t k =
       };
       apart = not-true (overlaps g (n * t) c.segments) p.0.1.1.0;
       slot = λ d.
-          let last : accepted (ask ((length c.segments <? 64, NoSlot) ∷ []) (Accepted 0)) ≡ true = simp d at p.1 in
+          let last : accepted (ask ((length c.segments <? 64, NoSlot) ∷ []) (Ok 0)) ≡ true = simp d at p.1 in
           ltb-true (length c.segments) 64 (passed _ _ last).0.0;
     }
 

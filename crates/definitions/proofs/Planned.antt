@@ -23,7 +23,7 @@ use Rattle.definitions.specs.declared.region.Values.{Values}
 use Rattle.definitions.specs.declared.region.Region.{Region}
 use Rattle.definitions.specs.declared.region.MemoryPermission.{MemoryPermission}
 use Rattle.definitions.specs.declared.answer.Refusal.TheVariants.{NoCompartment, NoScript}
-use Rattle.definitions.specs.declared.answer.Answer.TheVariants.{Accepted, Refused}
+use Rattle.std.specs.Prelude.{Ok, Err}
 use Rattle.definitions.specs.declared.call.Call.{Call}
 use Rattle.definitions.specs.declared.call.Call.TheVariants.{Add, Remove, Refcount, Overlaps, Map, Unmap, UnmapGpa, Permissions, Remap, Mappings, Allow}
 use Rattle.definitions.proofs.Bools.{Where, inn, low, high, where?, in-true, in-high, or-true, both}
@@ -621,11 +621,11 @@ module _ (allowance : ℕ) where
 
   -- so the answer is 25 then and only then
   pub then-25 : (ns : List ℕ) (i room : ℕ) → all fits ns ≡ true → ((calls : List Call) → Grants allowance calls ns → ⊥)
-      → on_plan allowance ns i room ≡ Refused NoScript
+      → on_plan allowance ns i room ≡ Err NoScript
   unfolding on_plan ask
   then-25 ns i room b h = rw (some-script-for ns b h)
 
-  pub only-then-25 : (ns : List ℕ) (i room : ℕ) → on_plan allowance ns i room ≡ Refused NoScript → (calls : List Call)
+  pub only-then-25 : (ns : List ℕ) (i room : ℕ) → on_plan allowance ns i room ≡ Err NoScript → (calls : List Call)
       → Grants allowance calls ns → ⊥
   unfolding on_plan ask
   only-then-25 ns i room e calls g =
@@ -708,23 +708,23 @@ module _ (s : State) (m : length s.compartments ≡ 8) (k : ℕ) (l : k < 8) (no
 
 -- what a page of the plan answers for a compartment tells whether the wish can be
 module _ (s : State) (k : ℕ) (ns : List ℕ) (i room : ℕ) where
-  pub page-taken : (many : ℕ) → Accepted many ≡ plan_answer s k ns i room → (k < 8) × (can_wish (allowance s k) ns ≡ true)
+  pub page-taken : (many : ℕ) → Ok many ≡ plan_answer s k ns i room → (k < 8) × (can_wish (allowance s k) ns ≡ true)
   unfolding plan_answer on_plan ask
   page-taken many e = go (k <? 8) refl (can_wish (allowance s k) ns) refl (ap accepted e)
     where
       go : (b : Bool) → (k <? 8) ≡ b → (t : Bool) → can_wish (allowance s k) ns ≡ t
-          → true ≡ accepted (if b then (if t then Accepted (length (page 3 (plan_groups (wanted ns)) i room)) else Refused NoScript) else Refused NoCompartment)
+          → true ≡ accepted (if b then (if t then Ok (length (page 3 (plan_groups (wanted ns)) i room)) else Err NoScript) else Err NoCompartment)
           → (k < 8) × (can_wish (allowance s k) ns ≡ true)
       go true d true f h = (ltb-true k 8 d, f)
       go true d false f h = absurd (true≢false h)
       go false d t f h = absurd (true≢false h)
 
-  pub page-refused : Refused NoScript ≡ plan_answer s k ns i room → (k < 8) × (can_wish (allowance s k) ns ≡ false)
+  pub page-refused : Err NoScript ≡ plan_answer s k ns i room → (k < 8) × (can_wish (allowance s k) ns ≡ false)
   unfolding plan_answer on_plan ask
   page-refused e = go (k <? 8) refl (can_wish (allowance s k) ns) refl (ap number_of e)
     where
       go : (b : Bool) → (k <? 8) ≡ b → (t : Bool) → can_wish (allowance s k) ns ≡ t
-          → 25 ≡ number_of (if b then (if t then Accepted (length (page 3 (plan_groups (wanted ns)) i room)) else Refused NoScript) else Refused NoCompartment)
+          → 25 ≡ number_of (if b then (if t then Ok (length (page 3 (plan_groups (wanted ns)) i room)) else Err NoScript) else Err NoCompartment)
           → (k < 8) × (can_wish (allowance s k) ns ≡ false)
       go true d true f h = absurd (omega (arith, h))
       go true d false f h = (ltb-true k 8 d, f)

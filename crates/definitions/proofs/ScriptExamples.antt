@@ -7,7 +7,7 @@ use Rattle.definitions.specs.Tests.{fits, host, guest}
 use Rattle.definitions.specs.Script
 use Rattle.definitions.specs.Script.{lines_of, cons_byte, is_digit, digits_of, column_of, columns_of, arity, call, malformed, line_of, spaced, number_in, answer_line}
 use Rattle.definitions.specs.declared.answer.Refusal.TheVariants.{Malformed}
-use Rattle.definitions.specs.declared.answer.Answer.TheVariants.{Accepted, Refused}
+use Rattle.std.specs.Prelude.{Ok, Err}
 use Rattle.definitions.specs.declared.call.Call.TheVariants.{Add, UnmapGpa, Mappings, Allow}
 
 -- a number of one or two digits at the right of 21 columns
@@ -98,10 +98,10 @@ unfolding lines_of cons_byte
 unended = refl
 
 -- 17 and 0; 0 and 30
-refused-line : answer_line (Refused Malformed) ≡ 32 ∷ 49 ∷ 55 ∷ one 48 ++ (10 ∷ [])
+refused-line : answer_line (Err Malformed) ≡ 32 ∷ 49 ∷ 55 ∷ one 48 ++ (10 ∷ [])
 unfolding answer_line number_in spaced one
 refused-line = refl
 
-accepted-line : answer_line (Accepted 30) ≡ 32 ∷ 32 ∷ 48 ∷ pair 51 48 ++ (10 ∷ [])
+accepted-line : answer_line (Ok 30) ≡ 32 ∷ 32 ∷ 48 ∷ pair 51 48 ++ (10 ∷ [])
 unfolding answer_line number_in spaced pair
 accepted-line = refl

@@ -16,8 +16,8 @@ use Rattle.definitions.specs.declared.addr.GuestAddr.{GuestAddr}
 use Rattle.definitions.specs.declared.remapper.Segment.{Segment}
 use Rattle.definitions.specs.declared.answer.Refusal.{Refusal}
 use Rattle.definitions.specs.declared.answer.Refusal.TheVariants.{NoCompartment, Overflow, Repeated, OthersTouched}
-use Rattle.definitions.specs.declared.answer.Answer.{Answer}
-use Rattle.definitions.specs.declared.answer.Answer.TheVariants.{Accepted, Refused}
+use Rattle.definitions.specs.Answers.{Answer}
+use Rattle.std.specs.Prelude.{Ok, Err}
 use Rattle.definitions.specs.declared.call.Call.{Call}
 use Rattle.definitions.specs.declared.call.Call.TheVariants.{Add, Remove, Refcount, Overlaps, Map, Unmap, UnmapGpa, Permissions, Remap, Mappings, Allow}
 use Rattle.definitions.proofs.SegmentLaws.{AllGood, Singles}
@@ -48,14 +48,14 @@ not-asked m [] x h other n = other n
 not-asked m (q ∷ qs) x h other n = go q.0 (refusal_number q.1 =? m) refl h n (λ k j. not-asked m qs x k other j)
   where
     go : (t u : Bool) → (refusal_number q.1 =? m) ≡ u → (not u && all (λ q. not (refusal_number q.1 =? m)) qs) ≡ true
-        → number_of (if t then ask qs x else Refused q.1) ≡ m
+        → number_of (if t then ask qs x else Err q.1) ≡ m
         → (all (λ q. not (refusal_number q.1 =? m)) qs ≡ true → number_of (ask qs x) ≡ m → ⊥) → ⊥
     go t true d h n ih = true≢false (sym h)
     go true false d h n ih = ih h n
     go false false d h n ih = eqb-false (refusal_number q.1) m d n
 
 -- of what is done, no number is returned
-unless : (t : Bool) (x : Answer) → (t ≡ false → number_of x ≡ 16 → ⊥) → number_of (if t then Accepted 0 else x) ≡ 16 → ⊥
+unless : (t : Bool) (x : Answer) → (t ≡ false → number_of x ≡ 16 → ⊥) → number_of (if t then Ok 0 else x) ≡ 16 → ⊥
 unless true x h n = omega arith
 unless false x h n = h refl n
 
@@ -65,12 +65,12 @@ neither false t h = h
 
 -- 10, 15, 16 of a guest unmap, where a yes to 15 means one to 16
 asked : (f o t : Bool) (qs : List (Bool × Refusal)) → (o ≡ true → t ≡ true) → all (λ q. not (refusal_number q.1 =? 16)) qs ≡ true
-    → number_of (ask ((f, Overflow) ∷ (o, Repeated) ∷ (t, OthersTouched) ∷ qs) (Accepted 0)) ≡ 16 → ⊥
+    → number_of (ask ((f, Overflow) ∷ (o, Repeated) ∷ (t, OthersTouched) ∷ qs) (Ok 0)) ≡ 16 → ⊥
 unfolding ask
 asked false o t qs h a n = omega arith
 asked true false t qs h a n = omega arith
 asked true true false qs h a n = true≢false (sym (h refl))
-asked true true true qs h a n = not-asked 16 qs (Accepted 0) a (λ z. omega arith) n
+asked true true true qs h a n = not-asked 16 qs (Ok 0) a (λ z. omega arith) n
 
 module _ (c : Compartment) (good : AllGood c.segments) (u : Unshared c.segments) where
   guest-never : (g : GuestAddr) (n : ℕ) → number_of (on_unmap_gpa c g n) ≡ 16 → ⊥
@@ -105,5 +105,5 @@ never-16 calls call h =
     (in-never (compartment (after calls) (compartment_of call)) (stored calls (compartment_of call)).good
     (stored calls (compartment_of call)).unshared _ _ call) h
 
-pub never-others-touched : (calls : List Call) (call : Call) → answer (after calls) call ≡ Refused OthersTouched → ⊥
+pub never-others-touched : (calls : List Call) (call : Call) → answer (after calls) call ≡ Err OthersTouched → ⊥
 never-others-touched calls call h = never-16 calls call (ap number_of h)

@@ -21,8 +21,8 @@ use Rattle.definitions.specs.Bundles.{calls_in, and_then, in_turn}
 use Rattle.definitions.specs.declared.addr.HostAddr.{HostAddr}
 use Rattle.definitions.specs.declared.region.Values.{Values}
 use Rattle.definitions.specs.declared.answer.Refusal.TheVariants.{InvalidRange, InvalidMemOps}
-use Rattle.definitions.specs.declared.answer.Answer.{Answer}
-use Rattle.definitions.specs.declared.answer.Answer.TheVariants.{Accepted, Refused}
+use Rattle.definitions.specs.Answers.{Answer}
+use Rattle.std.specs.Prelude.{Ok, Err}
 use Rattle.definitions.specs.declared.call.Call.{Call}
 use Rattle.definitions.specs.declared.call.Call.TheVariants.{Add, Remove, Refcount, Overlaps, Map, Unmap, UnmapGpa, Permissions, Remap, Mappings, Allow}
 use Rattle.definitions.proofs.Lists.{Blank, added, removed}
@@ -102,8 +102,8 @@ unfolding ranged ask
 ranged-is a e rights p q h = go (rights <? 64) (a.0 ≤? e.0) refl (a.0 =? e.0) refl
   where
     go : (s t : Bool) → (a.0 ≤? e.0) ≡ t → (u : Bool) → (a.0 =? e.0) ≡ u
-        → (if s then (if t then (if u then Accepted 0 else p) else Refused InvalidRange) else Refused InvalidMemOps)
-        ≡ (if s then (if t then (if u then Accepted 0 else q) else Refused InvalidRange) else Refused InvalidMemOps)
+        → (if s then (if t then (if u then Ok 0 else p) else Err InvalidRange) else Err InvalidMemOps)
+        ≡ (if s then (if t then (if u then Ok 0 else q) else Err InvalidRange) else Err InvalidMemOps)
     go false t d u f = refl
     go true false d u f = refl
     go true true d true f = refl
@@ -144,15 +144,15 @@ module _ (c : Compartment) (t : Table) (m : Shown c t) where
   unfolding answer_in answer_on on_refcount on_overlaps on_map on_unmap on_unmap_gpa with_segments permission_groups stream_groups
   answer-is n own (Add k a e r) h = add_is own a e r h
   answer-is n own (Remove k a e r) h = remove-is own a e r h
-  answer-is n own (Refcount k a e) h = ap (λ rs. Accepted (refcount_of a e rs)) m.records
+  answer-is n own (Refcount k a e) h = ap (λ rs. Ok (refcount_of a e rs)) m.records
   answer-is n own (Overlaps k g size) h = by-segments (λ d. on_overlaps d g size) (λ d. refl)
   answer-is n own (Map k p g size r) h = by-segments (λ d. on_map d p g size r) (λ d. refl)
   answer-is n own (Unmap k p size) h = by-segments (λ d. on_unmap d p size) (λ d. refl)
   answer-is n own (UnmapGpa k g size) h = by-segments (λ d. on_unmap_gpa d g size) (λ d. refl)
   answer-is n own (Permissions k i room) h =
-      ap (λ rs. Accepted (length (page 3 (map (λ r. permission_group (permission_of r)) rs) i room))) m.records
-  answer-is n own (Remap k i room) h = ap (λ ms. Accepted (length (page 5 (map mapping_group ms) i room))) stream-is
-  answer-is n own (Mappings k) h = ap (λ ms. Accepted (length ms)) stream-is
+      ap (λ rs. Ok (length (page 3 (map (λ r. permission_group (permission_of r)) rs) i room))) m.records
+  answer-is n own (Remap k i room) h = ap (λ ms. Ok (length (page 5 (map mapping_group ms) i room))) stream-is
+  answer-is n own (Mappings k) h = ap (λ ms. Ok (length ms)) stream-is
   answer-is n own (Allow k new) h = allow-is n new
 
   pub leaves-is : (call : Call) → Fits call → Shown (reckon call c) (leaves call t)

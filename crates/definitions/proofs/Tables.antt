@@ -19,8 +19,8 @@ use Rattle.definitions.specs.declared.addr.HostAddr.{HostAddr}
 use Rattle.definitions.specs.declared.region.Region.{Region}
 use Rattle.definitions.specs.declared.remapper.Segment.{Segment}
 use Rattle.definitions.specs.declared.answer.Refusal.TheVariants.{NoCompartment, CountFull, OutOfMemory, InvalidRegion, EndedBefore, CountEmpty, Malformed, PoolExceeded, StillInUse}
-use Rattle.definitions.specs.declared.answer.Answer.{Answer}
-use Rattle.definitions.specs.declared.answer.Answer.TheVariants.{Accepted, Refused}
+use Rattle.definitions.specs.Answers.{Answer}
+use Rattle.std.specs.Prelude.{Ok, Err}
 use Rattle.definitions.specs.declared.call.Call.{Call}
 use Rattle.definitions.specs.declared.call.Call.TheVariants.{Add, Remove, Refcount, Overlaps, Map, Unmap, UnmapGpa, Permissions, Remap, Mappings, Allow}
 use Rattle.definitions.proofs.Lists.{added, removed}
@@ -55,7 +55,7 @@ unfoldable pub add_on : ℕ → List Region → HostAddr → HostAddr → ℕ �
 add_on allowance rs a e rights =
     ranged a e rights
     (ask ((can_raise_on a e rights rs, CountFull) ∷ (length rs + new_records_on a e rs ≤? allowance, OutOfMemory) ∷ [])
-    (Accepted (add_change_on a e rights rs)))
+    (Ok (add_change_on a e rights rs)))
 
 unfoldable pub remove_on : ℕ → List Region → HostAddr → HostAddr → ℕ → Answer
 remove_on allowance rs a e rights =
@@ -63,25 +63,25 @@ remove_on allowance rs a e rights =
     (ask
     ((1 ≤? length (begun a rs), InvalidRegion) ∷ (a.0 <? last_end 0 (begun a rs), EndedBefore)
     ∷ (cuts_fit (length rs) allowance a e rs, OutOfMemory) ∷ (can_lower a e rights rs, CountEmpty) ∷ [])
-    (Accepted (remove_change_on a e rights rs)))
+    (Ok (remove_change_on a e rights rs)))
 
 unfoldable pub allow_on : ℕ → List Region → ℕ → Answer
-allow_on others rs n = ask ((others + n ≤? 1024, PoolExceeded) ∷ (length rs ≤? n, StillInUse) ∷ []) (Accepted 0)
+allow_on others rs n = ask ((others + n ≤? 1024, PoolExceeded) ∷ (length rs ≤? n, StillInUse) ∷ []) (Ok 0)
 
 -- what a call answers of this table, with the allowance m, where the others' are n together
 unfoldable pub answer_on : ℕ → ℕ → Table → Call → Answer
 answer_on n m t (Add k a e r) = add_on m t.records a e r
 answer_on n m t (Remove k a e r) = remove_on m t.records a e r
-answer_on n m t (Refcount k a e) = Accepted (refcount_of a e t.records)
+answer_on n m t (Refcount k a e) = Ok (refcount_of a e t.records)
 answer_on n m t (Overlaps k g size) = on_overlaps (with_segments empty t.segments) g size
 answer_on n m t (Map k h g size r) = on_map (with_segments empty t.segments) h g size r
 answer_on n m t (Unmap k h size) = on_unmap (with_segments empty t.segments) h size
 answer_on n m t (UnmapGpa k g size) = on_unmap_gpa (with_segments empty t.segments) g size
 answer_on n m t (Permissions k i room) =
-    Accepted (length (page 3 (map (λ r. permission_group (permission_of r)) t.records) i room))
+    Ok (length (page 3 (map (λ r. permission_group (permission_of r)) t.records) i room))
 answer_on n m t (Remap k i room) =
-    Accepted (length (page 5 (map mapping_group (stream t.records t.segments)) i room))
-answer_on n m t (Mappings k) = Accepted (length (stream t.records t.segments))
+    Ok (length (page 5 (map mapping_group (stream t.records t.segments)) i room))
+answer_on n m t (Mappings k) = Ok (length (stream t.records t.segments))
 answer_on n m t (Allow k new) = allow_on n t.records new
 
 -- what an accepted call leaves
@@ -126,6 +126,6 @@ after_on ts (c ∷ cs) = after_on (next_on ts c) cs
 
 -- a bundle's calls
 unfoldable pub in_turn_on : Shelf → List Line → Answer
-in_turn_on ts [] = Accepted 0
+in_turn_on ts [] = Ok 0
 in_turn_on ts (says c ∷ gs) = and_then (asks_on ts c) (in_turn_on (next_on ts c) gs)
-in_turn_on ts (malformed ∷ gs) = Refused Malformed
+in_turn_on ts (malformed ∷ gs) = Err Malformed

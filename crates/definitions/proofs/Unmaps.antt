@@ -23,8 +23,8 @@ use Rattle.definitions.specs.declared.addr.GuestAddr.{GuestAddr}
 use Rattle.definitions.specs.declared.remapper.Segment.{Segment}
 use Rattle.definitions.specs.declared.answer.Refusal.{Refusal}
 use Rattle.definitions.specs.declared.answer.Refusal.TheVariants.{NoCompartment, InvalidMemOps, InvalidRange, CountFull, OutOfMemory, InvalidRegion, EndedBefore, CountEmpty, EmptySegment, Overflow, AlreadyAliased, NoSlot, Repeated, OthersTouched, Malformed, PoolExceeded, StillInUse, BundleTooLong, NoScript}
-use Rattle.definitions.specs.declared.answer.Answer.{Answer}
-use Rattle.definitions.specs.declared.answer.Answer.TheVariants.{Accepted, Refused}
+use Rattle.definitions.specs.Answers.{Answer}
+use Rattle.std.specs.Prelude.{Ok, Err}
 use Rattle.definitions.specs.declared.call.Call.{Call}
 use Rattle.definitions.specs.declared.call.Call.TheVariants.{Unmap, UnmapGpa}
 use Rattle.definitions.proofs.Bools.{Where, inn, low, high, where?, in-true, both}
@@ -58,8 +58,8 @@ other-number BundleTooLong = refl
 other-number NoScript = refl
 
 pub never-13-14 : (a : Answer) → ((number_of a =? 13) || (number_of a =? 14)) ≡ false
-never-13-14 (Accepted v) = refl
-never-13-14 (Refused r) = other-number r
+never-13-14 (Ok v) = refl
+never-13-14 (Err r) = other-number r
 
 -- the segments of a compartment after calls
 abbrev pub segments_after : List Call → ℕ → List Segment

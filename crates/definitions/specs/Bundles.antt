@@ -5,8 +5,8 @@ use Rattle.definitions.specs.Questions.{ask, accepted}
 use Rattle.definitions.specs.Calls.{State, start, answer, after_from}
 use Rattle.definitions.specs.Script.{Line, call, malformed, left}
 use Rattle.definitions.specs.declared.answer.Refusal.TheVariants.{NoCompartment, Malformed, BundleTooLong}
-use Rattle.definitions.specs.declared.answer.Answer.{Answer}
-use Rattle.definitions.specs.declared.answer.Answer.TheVariants.{Accepted, Refused}
+use Rattle.definitions.specs.Answers.{Answer}
+use Rattle.std.specs.Prelude.{Ok, Err}
 use Rattle.definitions.specs.declared.call.Call.{Call}
 use Rattle.definitions.specs.declared.call.Call.TheVariants.{Add, Remove}
 
@@ -33,17 +33,17 @@ calls_in (malformed ∷ gs) = calls_in gs
 
 -- Judged one after another: if one is refused, the first refused call's number; if all are accepted, the change is 1 if any was.
 abbrev pub and_then : Answer → Answer → Answer
-and_then (Accepted v) (Accepted w) = Accepted (bit ((v =? 1) || (w =? 1)))
-and_then (Accepted v) (Refused r) = Refused r
-and_then (Refused r) later = Refused r
+and_then (Ok v) (Ok w) = Ok (bit ((v =? 1) || (w =? 1)))
+and_then (Ok v) (Err r) = Err r
+and_then (Err r) later = Err r
 
 -- What is not of the form is refused with 17 when its turn comes.
 abbrev pub told : State → Line → Answer
 told s (call c) = answer s c
-told s malformed = Refused Malformed
+told s malformed = Err Malformed
 
 unfoldable pub in_turn : State → List Line → Answer
-in_turn s [] = Accepted 0
+in_turn s [] = Ok 0
 in_turn s (g ∷ gs) = and_then (told s g) (in_turn (left s g) gs)
 
 -- 24 when there are more than 32, asked after 1

@@ -9,8 +9,8 @@ use Rattle.definitions.specs.Reckoning.{Compartment, empty, reckon, compartment_
 use Rattle.definitions.specs.Questions.{ask, accepted, on_add, on_remove, on_refcount, on_overlaps, on_map, on_unmap, on_unmap_gpa, on_allow}
 use Rattle.definitions.specs.declared.remapper.Mapping.{Mapping}
 use Rattle.definitions.specs.declared.answer.Refusal.TheVariants.{NoCompartment}
-use Rattle.definitions.specs.declared.answer.Answer.{Answer}
-use Rattle.definitions.specs.declared.answer.Answer.TheVariants.{Accepted}
+use Rattle.definitions.specs.Answers.{Answer}
+use Rattle.std.specs.Prelude.{Ok}
 use Rattle.definitions.specs.declared.call.Call.{Call}
 use Rattle.definitions.specs.declared.call.Call.TheVariants.{Add, Remove, Refcount, Overlaps, Map, Unmap, UnmapGpa, Permissions, Remap, Mappings, Allow}
 
@@ -64,9 +64,9 @@ answer_in n m c (Overlaps k g size) = on_overlaps c g size
 answer_in n m c (Map k h g size t) = on_map c h g size t
 answer_in n m c (Unmap k h size) = on_unmap c h size
 answer_in n m c (UnmapGpa k g size) = on_unmap_gpa c g size
-answer_in n m c (Permissions k i room) = Accepted (length (page 3 (permission_groups c) i room))
-answer_in n m c (Remap k i room) = Accepted (length (page 5 (stream_groups c) i room))
-answer_in n m c (Mappings k) = Accepted (length (stream_of c))
+answer_in n m c (Permissions k i room) = Ok (length (page 3 (permission_groups c) i room))
+answer_in n m c (Remap k i room) = Ok (length (page 5 (stream_groups c) i room))
+answer_in n m c (Mappings k) = Ok (length (stream_of c))
 answer_in n m c (Allow k new) = on_allow n c new
 
 -- Every call: 1 compartment below 8?

@@ -4,7 +4,7 @@ use Rattle.definitions.specs.Tests.{◌=?◌}
 use Rattle.definitions.specs.Reckoning.{Compartment, compartment_of}
 use Rattle.definitions.specs.Calls.{State, start, compartment, allowance, others, answer}
 use Rattle.definitions.specs.Bundles.{Step, single, bundle, step_answer, step_leaves, done}
-use Rattle.definitions.specs.declared.answer.Answer.{Answer}
+use Rattle.definitions.specs.Answers.{Answer}
 use Rattle.definitions.specs.declared.call.Call.{Call}
 use Rattle.definitions.specs.declared.call.Call.TheVariants.{Add, Remove, Refcount, Overlaps, Map, Unmap, UnmapGpa, Permissions, Remap, Mappings, Allow}
 

@@ -7,6 +7,7 @@ pub mod Stream
 pub mod Pages
 pub mod Reckoning
 pub mod Agreement
+pub mod Answers
 pub mod Questions
 pub mod Calls
 pub mod Script

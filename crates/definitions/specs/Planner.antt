@@ -8,8 +8,8 @@ use Rattle.definitions.specs.Questions.{ask, accepted}
 use Rattle.definitions.specs.Calls.{State, allowance, answer_in}
 use Rattle.definitions.specs.declared.region.MemoryPermission.{MemoryPermission}
 use Rattle.definitions.specs.declared.answer.Refusal.TheVariants.{NoCompartment, NoScript}
-use Rattle.definitions.specs.declared.answer.Answer.{Answer}
-use Rattle.definitions.specs.declared.answer.Answer.TheVariants.{Accepted}
+use Rattle.definitions.specs.Answers.{Answer}
+use Rattle.std.specs.Prelude.{Ok}
 use Rattle.definitions.specs.declared.call.Call.{Call}
 use Rattle.definitions.specs.declared.call.Call.TheVariants.{Add, Remove, Refcount, Overlaps, Map, Unmap, UnmapGpa, Permissions, Remap, Mappings, Allow}
 
@@ -64,7 +64,7 @@ can_wish m ns = finished ns && can_be m (wanted ns)
 -- what a page of the script answers, from an add on, into so many numbers: how many groups; refused, it leaves the slice alone
 unfoldable pub on_plan : ℕ → List ℕ → ℕ → ℕ → Answer
 on_plan m ns i room =
-    ask ((can_wish m ns, NoScript) ∷ []) (Accepted (length (page 3 (plan_groups (wanted ns)) i room)))
+    ask ((can_wish m ns, NoScript) ∷ []) (Ok (length (page 3 (plan_groups (wanted ns)) i room)))
 
 unfoldable pub plan_filled : ℕ → List ℕ → ℕ → List ℕ → List ℕ
 plan_filled m ns i out = if can_wish m ns then filled 3 (plan_groups (wanted ns)) i out else out

@@ -11,8 +11,8 @@ use Rattle.definitions.specs.declared.region.Values.{Values}
 use Rattle.definitions.specs.declared.region.Region.{Region}
 use Rattle.definitions.specs.declared.answer.Refusal.{Refusal}
 use Rattle.definitions.specs.declared.answer.Refusal.TheVariants.{NoCompartment, InvalidMemOps, InvalidRange, CountFull, OutOfMemory, InvalidRegion, EndedBefore, CountEmpty, EmptySegment, Overflow, AlreadyAliased, NoSlot, Repeated, OthersTouched, Malformed, PoolExceeded, StillInUse, BundleTooLong, NoScript}
-use Rattle.definitions.specs.declared.answer.Answer.{Answer}
-use Rattle.definitions.specs.declared.answer.Answer.TheVariants.{Accepted, Refused}
+use Rattle.definitions.specs.Answers.{Answer}
+use Rattle.std.specs.Prelude.{Ok, Err}
 
 -- the paper's number of each refusal
 abbrev pub refusal_number : Refusal → ℕ
@@ -38,21 +38,21 @@ refusal_number NoScript = 25
 
 -- the answer's number (0 or refusal), and its value (0 when refused)
 abbrev pub number_of : Answer → ℕ
-number_of (Accepted v) = 0
-number_of (Refused r) = refusal_number r
+number_of (Ok v) = 0
+number_of (Err r) = refusal_number r
 
 abbrev pub value_of : Answer → ℕ
-value_of (Accepted v) = v
-value_of (Refused r) = 0
+value_of (Ok v) = v
+value_of (Err r) = 0
 
 abbrev pub accepted : Answer → Bool
-accepted (Accepted v) = true
-accepted (Refused r) = false
+accepted (Ok v) = true
+accepted (Err r) = false
 
 -- questions in order, each with the refusal for no; with no no, the answer
 unfoldable pub ask : List (Bool × Refusal) → Answer → Answer
 ask [] answer = answer
-ask (q ∷ qs) answer = if q.0 then ask qs answer else Refused q.1
+ask (q ∷ qs) answer = if q.0 then ask qs answer else Err q.1
 
 -- do the counts that the rights name, uncacheable among them (document 02, order 8), all pass this test?
 unfoldable pub every_named : (ℕ → Bool) → ℕ → Values → Bool
@@ -88,7 +88,7 @@ can_lower a e rights rs = all (λ q. every_named (λ n. 0 <? n) rights q.values)
 -- add and remove: 2 (document 02, order 10: below 64), 3, (equal: done), then 4 and 5, or 6, 7, 5 and 8
 unfoldable pub ranged : HostAddr → HostAddr → ℕ → Answer → Answer
 ranged a e rights answer =
-    ask ((rights <? 64, InvalidMemOps) ∷ (a.0 ≤? e.0, InvalidRange) ∷ []) (if a.0 =? e.0 then Accepted 0 else answer)
+    ask ((rights <? 64, InvalidMemOps) ∷ (a.0 ≤? e.0, InvalidRange) ∷ []) (if a.0 =? e.0 then Ok 0 else answer)
 
 -- Document 02, order 4: question 5 compares with the caller's allowance only, at the same peaks.
 unfoldable pub on_add : ℕ → Compartment → HostAddr → HostAddr → ℕ → Answer
@@ -97,7 +97,7 @@ on_add allowance c a e rights =
     (ask
     ((can_raise a e rights c.values, CountFull)
     ∷ (in_use c + new_records a e c.values ≤? allowance, OutOfMemory) ∷ [])
-    (Accepted (add_change a e rights c.values)))
+    (Ok (add_change a e rights c.values)))
 
 unfoldable pub on_remove : ℕ → Compartment → HostAddr → HostAddr → ℕ → Answer
 on_remove allowance c a e rights =
@@ -106,13 +106,13 @@ on_remove allowance c a e rights =
     (ask
     ((1 ≤? length (begun a rs), InvalidRegion) ∷ (a.0 <? last_end 0 (begun a rs), EndedBefore)
     ∷ (cuts_fit (in_use c) allowance a e rs, OutOfMemory) ∷ (can_lower a e rights rs, CountEmpty) ∷ [])
-    (Accepted (remove_change a e rights c.values)))
+    (Ok (remove_change a e rights c.values)))
 
 unfoldable pub on_refcount : Compartment → HostAddr → HostAddr → Answer
-on_refcount c a e = Accepted (refcount_of a e (regions c.values))
+on_refcount c a e = Ok (refcount_of a e (regions c.values))
 
 unfoldable pub on_overlaps : Compartment → GuestAddr → ℕ → Answer
-on_overlaps c g n = ask ((fits (g.0 + n), Overflow) ∷ []) (Accepted (bit (overlaps g n c.segments)))
+on_overlaps c g n = ask ((fits (g.0 + n), Overflow) ∷ []) (Ok (bit (overlaps g n c.segments)))
 
 -- 11 by the meaning of order 1 (document 02), of a map that stores nothing too
 unfoldable pub on_map : Compartment → HostAddr → GuestAddr → ℕ → ℕ → Answer
@@ -120,12 +120,12 @@ on_map c h g n t =
     ask
     (((1 ≤? n) && (1 ≤? t), EmptySegment) ∷ (fits (n * t) && fits (g.0 + n * t) && fits (h.0 + n), Overflow)
     ∷ (not (overlaps g (n * t) c.segments), AlreadyAliased) ∷ [])
-    (if is_identity h g t then Accepted 0 else ask ((length c.segments <? 64, NoSlot) ∷ []) (Accepted 0))
+    (if is_identity h g t then Ok 0 else ask ((length c.segments <? 64, NoSlot) ∷ []) (Ok 0))
 
 -- both unmaps, 12 (document 02, order 3): would at most 64 segments remain?
 unfoldable pub on_unmap : Compartment → HostAddr → ℕ → Answer
 on_unmap c h n =
-    ask ((fits (h.0 + n), Overflow) ∷ (length (unmapped h n c.segments) ≤? 64, NoSlot) ∷ []) (Accepted 0)
+    ask ((fits (h.0 + n), Overflow) ∷ (length (unmapped h n c.segments) ≤? 64, NoSlot) ∷ []) (Ok 0)
 
 -- 16, asked after 15, never gets a no from tables grown from empty ones (document 02, order 1: proofs/Sixteen.antt)
 unfoldable pub on_unmap_gpa : Compartment → GuestAddr → ℕ → Answer
@@ -133,15 +133,15 @@ on_unmap_gpa c g n =
     let ss = c.segments in
     let e = guest_up g n in
     let hit = keep (touched g e) ss in
-    if (length ss =? 0) || (n =? 0) then Accepted 0
+    if (length ss =? 0) || (n =? 0) then Ok 0
     else
     ask
     ((fits (g.0 + n), Overflow) ∷ (all (λ s. span_whole g e s || (s.repeat =? 1)) hit, Repeated)
     ∷ (not (any (span_inside g e) ss) || (length hit =? 1), OthersTouched)
     ∷ (length (unmapped_gpa g n ss) ≤? 64, NoSlot) ∷ [])
-    (Accepted 0)
+    (Ok 0)
 
 -- Document 02, order 4, S: 18 when the allowances would pass 1,024 together; then 19 when the compartment's records in use exceed
 -- the new allowance
 unfoldable pub on_allow : ℕ → Compartment → ℕ → Answer
-on_allow others c n = ask ((others + n ≤? 1024, PoolExceeded) ∷ (in_use c ≤? n, StillInUse) ∷ []) (Accepted 0)
+on_allow others c n = ask ((others + n ≤? 1024, PoolExceeded) ∷ (in_use c ≤? n, StillInUse) ∷ []) (Ok 0)

@@ -6,8 +6,8 @@ use Rattle.definitions.specs.Questions.{number_of, value_of}
 use Rattle.definitions.specs.Calls.{State, start, compartment, stream_of, answer, next}
 use Rattle.definitions.specs.declared.remapper.Mapping.{Mapping}
 use Rattle.definitions.specs.declared.answer.Refusal.TheVariants.{Malformed}
-use Rattle.definitions.specs.declared.answer.Answer.{Answer}
-use Rattle.definitions.specs.declared.answer.Answer.TheVariants.{Refused}
+use Rattle.definitions.specs.Answers.{Answer}
+use Rattle.std.specs.Prelude.{Err}
 use Rattle.definitions.specs.declared.call.Call.{Call}
 use Rattle.definitions.specs.declared.call.Call.TheVariants.{Add, Remove, Refcount, Overlaps, Map, Unmap, UnmapGpa, Permissions, Remap, Mappings, Allow}
 
@@ -141,7 +141,7 @@ mapping_lines s (Allow k n) = []
 -- what a line prints, and what it leaves
 abbrev pub printed : State → Line → List (List ℕ)
 printed s (call c) = answer_line (answer s c) ∷ mapping_lines s c
-printed s malformed = answer_line (Refused Malformed) ∷ []
+printed s malformed = answer_line (Err Malformed) ∷ []
 
 abbrev pub left : State → Line → State
 left s (call c) = next s c

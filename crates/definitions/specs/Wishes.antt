@@ -8,7 +8,7 @@ use Rattle.definitions.specs.Script.{Read, numbers, unread, lines_of, columns_of
 use Rattle.definitions.specs.Planner.{wanted, plan, adds, can_wish}
 use Rattle.definitions.specs.declared.region.MemoryPermission.{MemoryPermission}
 use Rattle.definitions.specs.declared.answer.Refusal.TheVariants.{NoCompartment, Malformed, PoolExceeded, NoScript}
-use Rattle.definitions.specs.declared.answer.Answer.TheVariants.{Refused}
+use Rattle.std.specs.Prelude.{Err}
 use Rattle.definitions.specs.declared.call.Call.{Call}
 use Rattle.definitions.specs.declared.call.Call.TheVariants.{Allow}
 
@@ -56,12 +56,12 @@ plan_lines k m ws =
 
 -- a wish is answered with the script, or with one line: 17 and the number of the first line that is not of the form, or 25
 abbrev pub wish_lines : ℕ → ℕ → Wish → List (List ℕ)
-wish_lines k m (wish ns) = if can_wish m ns then plan_lines k m (wanted ns) else answer_line (Refused NoScript) ∷ []
+wish_lines k m (wish ns) = if can_wish m ns then plan_lines k m (wanted ns) else answer_line (Err NoScript) ∷ []
 wish_lines k m (broken n) = answer_columns (refusal_number Malformed) n ∷ []
 
 -- before it is read: 1, is there such a compartment? 18, can one have this allowance?
 unfoldable pub plan_text : ℕ → ℕ → List ℕ → List (List ℕ)
 plan_text k m text =
-    if not (k <? 8) then answer_line (Refused NoCompartment) ∷ []
-    else if not (m ≤? 1024) then answer_line (Refused PoolExceeded) ∷ []
+    if not (k <? 8) then answer_line (Err NoCompartment) ∷ []
+    else if not (m ≤? 1024) then answer_line (Err PoolExceeded) ∷ []
     else wish_lines k m (wish_of text)

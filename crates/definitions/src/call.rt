@@ -21,21 +21,22 @@ pub enum Call {
 
 impl Call {
     // The compartment that the call names.
+    #[tactic(auto, unfolding(crate::specs::Reckoning::compartment_of))]
     pub fn compartment(self) -> u64
         ensures { result ≡ compartment_of self }
     {
         match self {
-            Call::Add(k, _, _, _) => k,
-            Call::Remove(k, _, _, _) => k,
-            Call::Refcount(k, _, _) => k,
-            Call::Overlaps(k, _, _) => k,
-            Call::Map(k, _, _, _, _) => k,
-            Call::Unmap(k, _, _) => k,
-            Call::UnmapGpa(k, _, _) => k,
-            Call::Permissions(k, _, _) => k,
-            Call::Remap(k, _, _) => k,
-            Call::Mappings(k) => k,
-            Call::Allow(k, _) => k,
+            Call::Add(k, _, _, _)
+            | Call::Remove(k, _, _, _)
+            | Call::Refcount(k, _, _)
+            | Call::Overlaps(k, _, _)
+            | Call::Map(k, _, _, _, _)
+            | Call::Unmap(k, _, _)
+            | Call::UnmapGpa(k, _, _)
+            | Call::Permissions(k, _, _)
+            | Call::Remap(k, _, _)
+            | Call::Mappings(k)
+            | Call::Allow(k, _) => k,
         }
     }
 }

@@ -8,7 +8,7 @@ mod region;
 mod remapper;
 
 pub use addr::{GuestAddr, HostAddr};
-pub use answer::{Answer, Refusal};
+pub use answer::{Answer, Refusal, number_of, value_of};
 pub use call::Call;
 pub use region::{Counters, MemOps, MemoryPermission, RECORD_LEN, Region, Values};
 pub use remapper::{Mapping, Segment};

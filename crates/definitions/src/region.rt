@@ -10,7 +10,7 @@ use crate::addr::HostAddr;
 #[derive(Clone, Copy)]
 pub struct MemOps(pub u64);
 
-#[derive(Clone, Copy)]
+#[derive(Clone, Copy, PartialEq, Eq, Default)]
 pub struct Counters {
     pub read: u64,
     pub write: u64,
@@ -21,7 +21,7 @@ pub struct Counters {
 }
 
 // The values of an address: the holders and the counters.
-#[derive(Clone, Copy)]
+#[derive(Clone, Copy, PartialEq, Eq, Default)]
 pub struct Values {
     pub refcount: u64,
     pub counters: Counters,
@@ -61,20 +61,16 @@ impl MemOps {
     pub const DEVICE: MemOps = MemOps(32);
 
     // No for write or exec without read.
+    #[tactic(auto, unfolding(crate::specs::Rights::is_valid, crate::specs::Rights::as_counters, crate::specs::Rights::named))]
     pub fn is_valid(self) -> bool
         ensures { result ≡ is_valid self }
     {
         let c = self.as_counters();
-        if c.read == 1 {
-            return true;
-        }
-        if c.write == 1 {
-            return false;
-        }
-        c.exec == 0
+        c.read == 1 || (c.write == 0 && c.exec == 0)
     }
 
     // 1 for each right that is named.
+    #[tactic(auto, unfolding(crate::specs::Rights::as_counters, crate::specs::Rights::named))]
     pub fn as_counters(self) -> Counters
         ensures { result ≡ as_counters self }
     {
@@ -97,42 +93,22 @@ fn flag_of(flag: u64, count: u64) -> u64
 }
 
 impl Region {
+    #[tactic(auto, unfolding(crate::specs::Regions::has, crate::specs::Tests::inside))]
     pub fn contains(self, addr: HostAddr) -> bool
         ensures { result ≡ has self addr }
     {
-        if self.start.0 <= addr.0 {
-            return addr.0 < self.end.0;
-        }
-        false
+        self.start <= addr && addr < self.end
     }
 
+    #[tactic(auto, unfolding(crate::specs::Regions::same, crate::specs::Rights::RIGHTS))]
     pub fn same_counts(self, other: Region) -> bool
         ensures { result ≡ same self.values other.values }
     {
-        let a = self.values.counters;
-        let b = other.values.counters;
-        if self.values.refcount != other.values.refcount {
-            return false;
-        }
-        if a.read != b.read {
-            return false;
-        }
-        if a.write != b.write {
-            return false;
-        }
-        if a.exec != b.exec {
-            return false;
-        }
-        if a.supervisor != b.supervisor {
-            return false;
-        }
-        if a.uncacheable != b.uncacheable {
-            return false;
-        }
-        a.device == b.device
+        self.values == other.values
     }
 
     // The rights with a count above 0.
+    #[tactic(auto, unfolding(crate::specs::Values::rights_of, crate::specs::Rights::RIGHTS))]
     pub fn get_ops(self) -> MemOps
         ensures { result ≡ rights_of self.values }
     {
