@@ -2,7 +2,7 @@
 use Prim.Native.Nat.{ℕ, suc, ◌+◌, ◌-◌, ◌<◌, ◌≤◌}
 use mathlib.Core.Path.{◌≡◌, refl, sym, ap, ◌∙◌}
 use mathlib.Core.List.{List, [], ◌∷◌, ◌++◌}
-use mathlib.Core.Bool.{true, false, and-false}
+use mathlib.Core.Bool.{Bool, true, false, and-false}
 use native.Mathlib.Omega.{arith}
 use native.Mathlib.Numerals.{add-one}
 use lib.ListN.{length, get_or, set, take}
@@ -10,12 +10,10 @@ use lib.Seq.{get_or-set_same, take-suc-set, take_all}
 use lib.Dec.{leb}
 use borrow.Author.Tests.{lt-ltb, le-ltb, le-leb, lt-leb}
 use Rattle.free_list.specs.Stack.{FreeListCall, allocate, free, up_from, has, freeable, rest, step, after, used_from, used}
-use Rattle.free_list.specs.Grown.{head_of, links_of, first_of, Grown, IsGrown, Allocates, Frees, next_used}
+use Rattle.free_list.specs.Grown.{head_of, links_of, first_of, Grown, IsGrown, Allocates, Frees, next_from}
 use Rattle.free_list.specs.declared.FreeList.{FreeList}
-use Rattle.free_list.specs.declared.Allocated.{Allocated}
-use Rattle.free_list.specs.declared.Freed.{Freed}
-use Rattle.free_list.specs.declared.Slot.TheVariants.{At, Full}
-use Rattle.free_list.specs.declared.InUse.TheVariants.{At as InUse-as-At, End}
+use Rattle.free_list.specs.declared.FreeListIterator.{FreeListIterator}
+use Rattle.std.specs.Prelude.{Option, Some, None}
 use Rattle.free_list.proofs.Laws.{Good, good-after, after-snoc, length-links, above, told, pop, links-fresh, head-up_from, up_from-snoc, one_less, in-use-rest, none-used, used_step, used-end}
 
 -- one more slot is linked to the next number
@@ -90,7 +88,7 @@ module _ (n : ℕ) (calls : List FreeListCall) (links : List ℕ) (list : FreeLi
 
   pub allocates : list.head < length links
       → Allocates n calls links (set links list.head (length links + 1)) list
-      (record { list = record { head = get_or links list.head 0; count = list.count + 1 }; slot = At list.head })
+      (record { head = get_or links list.head 0; count = list.count + 1 }) (Some list.head)
   allocates l =
       let s = (top l).0 in
       let e : after n calls ≡ list.head ∷ s = (top l).1 in
@@ -106,7 +104,7 @@ module _ (n : ℕ) (calls : List FreeListCall) (links : List ℕ) (list : FreeLi
         kept = λ q. absurd (let y : ◌≡◌ {A = ℕ} 0 1 = cc in omega arith);
       }
 
-  pub allocates-none : length links ≤ list.head → Allocates n calls links links list (record { list = list; slot = Full })
+  pub allocates-none : length links ≤ list.head → Allocates n calls links links list list None
   allocates-none l =
       let e : after n calls ≡ [] = bottom l in
       record {
@@ -119,13 +117,13 @@ module _ (n : ℕ) (calls : List FreeListCall) (links : List ℕ) (list : FreeLi
 
   module _ (idx : ℕ) where
     -- a slot that cannot be freed: nothing changes
-    refused : freeable n (after n calls) idx ≡ false → Frees n calls idx links links list (record { list = list; done = false })
+    refused : freeable n (after n calls) idx ≡ false → Frees n calls idx links links list list false
     refused e = record { answer = sym e; grown = unchanged (free idx) (rw e); kept = λ q. record { array = refl; struct = refl } }
 
-    pub frees-no-slot : length links ≤ idx → Frees n calls idx links links list (record { list = list; done = false })
+    pub frees-no-slot : length links ≤ idx → Frees n calls idx links links list list false
     frees-no-slot l = refused (rw (le-ltb idx n (omega arith)))
 
-    pub frees-twice : idx < length links → get_or links idx 0 ≤ length links → Frees n calls idx links links list (record { list = list; done = false })
+    pub frees-twice : idx < length links → get_or links idx 0 ≤ length links → Frees n calls idx links links list list false
     frees-twice l v = refused (rw (sym (slot idx l) ∙ le-leb _ _ v, and-false))
 
     module _ (l : idx < length links) (v : length links < get_or links idx 0) where
@@ -136,7 +134,7 @@ module _ (n : ℕ) (calls : List FreeListCall) (links : List ℕ) (list : FreeLi
       pub some-used : 1 ≤ list.count
       some-used = omega (arith, one_less n idx (after n calls) pushed)
 
-      pub frees : Frees n calls idx links (set links idx list.head) list (record { list = record { head = idx; count = list.count - 1 }; done = true })
+      pub frees : Frees n calls idx links (set links idx list.head) list (record { head = idx; count = list.count - 1 }) true
       frees =
           let f : freeable n (after n calls) idx ≡ true = rw (pushed.1, lt-ltb idx n pushed.0) in
           record {
@@ -147,15 +145,17 @@ module _ (n : ℕ) (calls : List FreeListCall) (links : List ℕ) (list : FreeLi
 
   -- ---- the cursor
 
-  module _ (k : ℕ) where
-    pub next-used : k < length links → has k (after n calls) ≡ false → InUse-as-At k (record { next = k + 1 }) ≡ next_used (used_from k (n - k) (after n calls))
-    next-used l e = rw (used_step n k (after n calls) (omega arith), e)
+  -- the slots in use from k up are those from the cursor c up: none between is in use
+  module _ (k : ℕ) (c : FreeListIterator) (p : used_from k (n - k) (after n calls) ≡ used_from c.next (n - c.next) (after n calls)) where
+    pub next-used : k < length links → has k (after n calls) ≡ false → (Some k, record { next = k + 1 }) ≡ next_from n (after n calls) c
+    next-used l e = rw (sym p, used_step n k (after n calls) (omega arith), e)
 
-    pub next-skip : k < length links → has k (after n calls) ≡ true → used_from (k + 1) (n - (k + 1)) (after n calls) ≡ used_from k (n - k) (after n calls)
-    next-skip l e = rw (used_step n k (after n calls) (omega arith), e)
+    pub next-skip : k < length links → has k (after n calls) ≡ true
+        → used_from (k + 1) (n - (k + 1)) (after n calls) ≡ used_from c.next (n - c.next) (after n calls)
+    next-skip l e = rw (sym p, used_step n k (after n calls) (omega arith), e)
 
-    pub next-end : length links ≤ k → End ≡ next_used (used_from k (n - k) (after n calls))
-    next-end l = rw (used-end n k (after n calls) (omega arith))
+    pub next-end : length links ≤ k → (None, c) ≡ next_from n (after n calls) c
+    next-end l = rw (sym p, used-end n k (after n calls) (omega arith))
 
 -- none of the slots from k up to i is in use
 abbrev pub Passed : List ℕ → FreeList → ℕ → ℕ → Type 0
@@ -163,10 +163,10 @@ Passed links list k i = (n : ℕ) (calls : List FreeListCall) → Grown n links 
 
 -- ---- for callers: what comes back is grown too
 
-pub allocated-grown : {links links' : List ℕ} {list : FreeList} (r : Allocated) (p : IsGrown links list)
-    → ((n : ℕ) (calls : List FreeListCall) → Grown n links list calls → Allocates n calls links links' list r) → IsGrown links' r.list
-allocated-grown r p a = record { n = p.n; calls = p.calls ++ (allocate ∷ []); grown = (a p.n p.calls p.grown).grown }
+pub allocated-grown : {links links' : List ℕ} {list list' : FreeList} {r : Option ℕ} (p : IsGrown links list)
+    → ((n : ℕ) (calls : List FreeListCall) → Grown n links list calls → Allocates n calls links links' list list' r) → IsGrown links' list'
+allocated-grown p a = record { n = p.n; calls = p.calls ++ (allocate ∷ []); grown = (a p.n p.calls p.grown).grown }
 
-pub freed-grown : {links links' : List ℕ} {list : FreeList} {idx : ℕ} (r : Freed) (p : IsGrown links list)
-    → ((n : ℕ) (calls : List FreeListCall) → Grown n links list calls → Frees n calls idx links links' list r) → IsGrown links' r.list
-freed-grown {idx = idx} r p a = record { n = p.n; calls = p.calls ++ (free idx ∷ []); grown = (a p.n p.calls p.grown).grown }
+pub freed-grown : {links links' : List ℕ} {list list' : FreeList} {idx : ℕ} {done : Bool} (p : IsGrown links list)
+    → ((n : ℕ) (calls : List FreeListCall) → Grown n links list calls → Frees n calls idx links links' list list' done) → IsGrown links' list'
+freed-grown {idx = idx} p a = record { n = p.n; calls = p.calls ++ (free idx ∷ []); grown = (a p.n p.calls p.grown).grown }

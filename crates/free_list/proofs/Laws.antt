@@ -12,9 +12,8 @@ use lib.Dec.{ltb, leb, eqb}
 use borrow.Author.Tests.{ltb-true, eqb-true, eqb-false, ne_eqb, eq-eqb, not-true, le-leb, lt-leb}
 use Rattle.free_list.specs.Stack.{FreeListCall, allocate, free, up_from, has, freeable, step, run, after, used_from, used}
 use Rattle.free_list.specs.Grown.{head_of, links_of, first_of, first_cursor, next_used, next_from}
-use Rattle.free_list.specs.declared.Slot.TheVariants.{At}
 use Rattle.free_list.specs.declared.FreeListIterator.{FreeListIterator}
-use Rattle.free_list.specs.declared.InUse.TheVariants.{At as InUse-as-At, End}
+use Rattle.std.specs.Prelude.{Some, None}
 
 -- ---- tests
 
@@ -220,12 +219,12 @@ used-first n (suc m) k x s xs q e = go (has k s) refl e (used-first n m (suc k) 
 
 -- what the cursor c comes to, of n slots with the stack s of free ones, when it is stepped until the end
 pub data Visits (n : ℕ) (s : List ℕ) : FreeListIterator → List ℕ → Type 0 where
-  end : {c : FreeListIterator} → next_from n s c ≡ End → Visits n s c []
-  more : {c d : FreeListIterator} {x : ℕ} {xs : List ℕ} → next_from n s c ≡ InUse-as-At x d → Visits n s d xs → Visits n s c (x ∷ xs)
+  end : {c : FreeListIterator} → next_from n s c ≡ (None, c) → Visits n s c []
+  more : {c d : FreeListIterator} {x : ℕ} {xs : List ℕ} → next_from n s c ≡ (Some x, d) → Visits n s d xs → Visits n s c (x ∷ xs)
 
 visits : (n : ℕ) (s xs : List ℕ) (k : ℕ) → used_from k (n - k) s ≡ xs → Visits n s (record { next = k }) xs
-visits n s [] k e = end (ap next_used e)
-visits n s (x ∷ xs) k e = more (ap next_used e) (visits n s xs (x + 1) (sym (used-first n (n - k) k x s xs refl e).behind))
+visits n s [] k e = end (ap (λ (t : List ℕ). next_used t (record { next = k })) e)
+visits n s (x ∷ xs) k e = more (ap (λ (t : List ℕ). next_used t (record { next = k })) e) (visits n s xs (x + 1) (sym (used-first n (n - k) k x s xs refl e).behind))
 
 -- from the first cursor it comes to each slot in use once, in rising order
 pub iterates : (n : ℕ) (s : List ℕ) → Visits n s first_cursor (used n s)
@@ -233,19 +232,19 @@ iterates n s = visits n s (used n s) 0 (let e : n - 0 ≡ n = omega arith in rw 
 
 -- ---- what the calls hand out and take are slots
 
-pub first_fits : (n : ℕ) (cs : List FreeListCall) (i : ℕ) → first_of (after n cs) ≡ At i → i < n
+pub first_fits : (n : ℕ) (cs : List FreeListCall) (i : ℕ) → first_of (after n cs) ≡ Some i → i < n
 first_fits n cs i e = go (after n cs) (good-after n cs) e
   where
-    go : (s : List ℕ) → Good n s → first_of s ≡ At i → i < n
+    go : (s : List ℕ) → Good n s → first_of s ≡ Some i → i < n
     go [] g q = absurd (let z : ◌≡◌ {A = ℕ} 0 1 = cc in omega arith)
     go (x ∷ s) g q = let y : x ≡ i = cc in omega arith
 
 pub freed-fits : (n i : ℕ) (s : List ℕ) → freeable n s i ≡ true → i < n
 freed-fits n i s e = ltb-true i n (and-true (ltb i n) (not (has i s)) e).0
 
-pub next_fits : (n : ℕ) (s : List ℕ) (c d : FreeListIterator) (i : ℕ) → next_from n s c ≡ InUse-as-At i d → i < n
-next_fits n s c d i e = go (used_from c.next (n - c.next) s) refl e
+pub next_fits : (n : ℕ) (s : List ℕ) (c : FreeListIterator) (i : ℕ) → (next_from n s c).0 ≡ Some i → i < n
+next_fits n s c i e = go (used_from c.next (n - c.next) s) refl e
   where
-    go : (xs : List ℕ) → used_from c.next (n - c.next) s ≡ xs → next_used xs ≡ InUse-as-At i d → i < n
+    go : (xs : List ℕ) → used_from c.next (n - c.next) s ≡ xs → (next_used xs c).0 ≡ Some i → i < n
     go [] u q = absurd (let z : ◌≡◌ {A = ℕ} 0 1 = cc in omega arith)
     go (x ∷ xs) u q = let y : x ≡ i = cc in omega (arith, (used-first n (n - c.next) c.next x s xs refl u).below)

@@ -1,14 +1,8 @@
 -- How the array and the struct hold the stack, and what each function ensures.
-use Rattle.std.specs.Prelude.{ℕ, ◌+◌, ◌-◌, ◌≡◌, List, [], ◌∷◌, ◌++◌, false, length, set, replicate}
+use Rattle.std.specs.Prelude.{ℕ, ◌+◌, ◌-◌, ◌≡◌, List, [], ◌∷◌, ◌++◌, Bool, false, Option, Some, None, length, set, replicate}
 use Rattle.free_list.specs.Stack.{FreeListCall, allocate, free, freeable, after, used_from, used}
 use Rattle.free_list.specs.declared.FreeList.{FreeList}
-use Rattle.free_list.specs.declared.Slot.{Slot}
-use Rattle.free_list.specs.declared.Slot.TheVariants.{At, Full}
-use Rattle.free_list.specs.declared.Allocated.{Allocated}
-use Rattle.free_list.specs.declared.Freed.{Freed}
 use Rattle.free_list.specs.declared.FreeListIterator.{FreeListIterator}
-use Rattle.free_list.specs.declared.InUse.{InUse}
-use Rattle.free_list.specs.declared.InUse.TheVariants.{At as InUse-as-At, End}
 
 -- the top of the stack, or n where it is empty
 abbrev pub head_of : ℕ → List ℕ → ℕ
@@ -39,31 +33,31 @@ pub record Same (before links : List ℕ) (list new : FreeList) : Type 0 where
   pub struct : new ≡ list
 
 -- the answer of allocate: the top of the stack
-abbrev pub first_of : List ℕ → Slot
-first_of [] = Full
-first_of (x ∷ s) = At x
+abbrev pub first_of : List ℕ → Option ℕ
+first_of [] = None
+first_of (x ∷ s) = Some x
 
 -- what allocate ensures, for one list of calls that grew what it was handed
-pub record Allocates (n : ℕ) (calls : List FreeListCall) (before links : List ℕ) (list : FreeList) (r : Allocated) : Type 0 where
-  pub answer : r.slot ≡ first_of (after n calls)
-  pub grown : Grown n links r.list (calls ++ (allocate ∷ []))
-  pub kept : after n calls ≡ [] → Same before links list r.list
+pub record Allocates (n : ℕ) (calls : List FreeListCall) (before links : List ℕ) (list new : FreeList) (r : Option ℕ) : Type 0 where
+  pub answer : r ≡ first_of (after n calls)
+  pub grown : Grown n links new (calls ++ (allocate ∷ []))
+  pub kept : after n calls ≡ [] → Same before links list new
 
 -- what free ensures, for one list of calls that grew what it was handed
-pub record Frees (n : ℕ) (calls : List FreeListCall) (idx : ℕ) (before links : List ℕ) (list : FreeList) (r : Freed) : Type 0 where
-  pub answer : r.done ≡ freeable n (after n calls) idx
-  pub grown : Grown n links r.list (calls ++ (free idx ∷ []))
-  pub kept : r.done ≡ false → Same before links list r.list
+pub record Frees (n : ℕ) (calls : List FreeListCall) (idx : ℕ) (before links : List ℕ) (list new : FreeList) (done : Bool) : Type 0 where
+  pub answer : done ≡ freeable n (after n calls) idx
+  pub grown : Grown n links new (calls ++ (free idx ∷ []))
+  pub kept : done ≡ false → Same before links list new
 
 -- the cursor that stands before the first slot
 abbrev pub first_cursor : FreeListIterator
 first_cursor = record { next = 0 }
 
--- what a cursor comes to, given the slots in use from it up: the first of them, with the cursor behind it
-abbrev pub next_used : List ℕ → InUse
-next_used [] = End
-next_used (x ∷ xs) = InUse-as-At x (record { next = x + 1 })
+-- what the cursor c comes to, given the slots in use from it up: the first of them, with the cursor behind it, or none, and it stays
+abbrev pub next_used : List ℕ → FreeListIterator → Option ℕ × FreeListIterator
+next_used [] c = (None, c)
+next_used (x ∷ xs) c = (Some x, record { next = x + 1 })
 
--- the answer of next, of n slots with the stack s of free ones, at the cursor c
-abbrev pub next_from : ℕ → List ℕ → FreeListIterator → InUse
-next_from n s c = next_used (used_from c.next (n - c.next) s)
+-- the answer of next and the cursor that it leaves, of n slots with the stack s of free ones, at the cursor c
+abbrev pub next_from : ℕ → List ℕ → FreeListIterator → Option ℕ × FreeListIterator
+next_from n s c = next_used (used_from c.next (n - c.next) s) c

@@ -1,5 +1,6 @@
 // Slots last freed, first reused, over an array of N numbers that the caller lends.
 // links[i] is the next free slot after i, N for none at the last one, and N + 1 where slot i is in use.
+// They are numbers in an array that is lent, not Options in a list of its own: memory is fixed, and links are index numbers.
 #![tactic(auto)]
 
 ghost use Rattle.std.specs.Prelude.{◌≡◌, List, [], ℕ, length};
@@ -14,37 +15,11 @@ pub struct FreeList {
     pub count: usize,
 }
 
-// What allocate hands out.
-#[derive(Clone, Copy)]
-pub enum Slot {
-    At(usize),
-    Full,
-}
-
-#[derive(Clone, Copy)]
-pub struct Allocated {
-    pub list: FreeList,
-    pub slot: Slot,
-}
-
-// What free leaves, and whether it freed the slot.
-#[derive(Clone, Copy)]
-pub struct Freed {
-    pub list: FreeList,
-    pub done: bool,
-}
-
-// A place among the slots: the next one to look at.
+// A place among the slots: the next one to look at. A cursor is a value that borrows nothing, so each step is lent the links, and it
+// is no Iterator.
 #[derive(Clone, Copy)]
 pub struct FreeListIterator {
     pub next: usize,
-}
-
-// The slot in use that a cursor came to, with the cursor behind it.
-#[derive(Clone, Copy)]
-pub enum InUse {
-    At(usize, FreeListIterator),
-    End,
 }
 
 impl FreeList {
@@ -52,65 +27,41 @@ impl FreeList {
     pub fn new(links: &mut [usize]) -> FreeList
         ensures { Grown (length links.old) links.new result [] }
     {
-        let n = links.len();
-        let mut i: usize = 0;
-        while i < n {
-            links[i] = i + 1;
-            i += 1;
+        for (i, link) in links.iter_mut().enumerate() {
+            *link = i + 1;
         }
         FreeList { head: 0, count: 0 }
     }
 
-    // Takes the slot that was freed last, or else the lowest that was never taken.
-    pub fn allocate(self, links: &mut [usize]) -> Allocated
-        requires { IsGrown links.old self }
-        ensures { (n : ℕ) (calls : List FreeListCall) → Grown n links.old self calls → Allocates n calls links.old links.new self result }
+    // Takes the slot that was freed last, or else the lowest that was never taken. None where none is free.
+    pub fn allocate(&mut self, links: &mut [usize]) -> Option<usize>
+        requires { IsGrown links.old self.old }
+        ensures { (n : ℕ) (calls : List FreeListCall) → Grown n links.old self.old calls → Allocates n calls links.old links.new self.old self.new result }
     {
         let n = links.len();
-        let head = self.head;
-        if n <= head {
-            return Allocated {
-                list: self,
-                slot: Slot::Full,
-            };
+        let slot = self.head;
+        if n <= slot {
+            return None;
         }
-        let next = links[head];
-        links[head] = n + 1;
-        Allocated {
-            list: FreeList {
-                head: next,
-                count: self.count + 1,
-            },
-            slot: Slot::At(head),
-        }
+        self.head = links[slot];
+        links[slot] = n + 1;
+        self.count += 1;
+        Some(slot)
     }
 
     // Gives slot idx back. Refused where there is no such slot or it is free already.
-    pub fn free(self, links: &mut [usize], idx: usize) -> Freed
-        requires { IsGrown links.old self }
-        ensures { (n : ℕ) (calls : List FreeListCall) → Grown n links.old self calls → Frees n calls idx links.old links.new self result }
+    pub fn free(&mut self, links: &mut [usize], idx: usize) -> bool
+        requires { IsGrown links.old self.old }
+        ensures { (n : ℕ) (calls : List FreeListCall) → Grown n links.old self.old calls → Frees n calls idx links.old links.new self.old self.new result }
     {
         let n = links.len();
-        if n <= idx {
-            return Freed {
-                list: self,
-                done: false,
-            };
-        }
-        if links[idx] <= n {
-            return Freed {
-                list: self,
-                done: false,
-            };
+        if n <= idx || links[idx] <= n {
+            return false;
         }
         links[idx] = self.head;
-        Freed {
-            list: FreeList {
-                head: idx,
-                count: self.count - 1,
-            },
-            done: true,
-        }
+        self.head = idx;
+        self.count -= 1;
+        true
     }
 
     // Is slot idx free? Past the slots none is.
@@ -118,11 +69,10 @@ impl FreeList {
         requires { IsGrown links.now self }
         ensures { (n : ℕ) (calls : List FreeListCall) → Grown n links.now self calls → result ≡ has idx (after n calls) }
     {
-        let n = links.len();
-        if idx < n {
-            return links[idx] <= n;
+        match links.get(idx) {
+            Some(&link) => link <= links.len(),
+            None => false,
         }
-        false
     }
 
     // How many slots are free.
@@ -142,20 +92,17 @@ impl FreeList {
 }
 
 impl FreeListIterator {
-    // The first slot in use at the cursor or above it.
-    pub fn next(self, links: &[usize], list: FreeList) -> InUse
+    // The first slot in use at the cursor or above it, with the cursor put behind it. None where there is none: the cursor stays.
+    pub fn next(&mut self, links: &[usize], list: FreeList) -> Option<usize>
         requires { IsGrown links.now list }
-        ensures { (n : ℕ) (calls : List FreeListCall) → Grown n links.now list calls → result ≡ next_from n (after n calls) self }
+        ensures { (n : ℕ) (calls : List FreeListCall) → Grown n links.now list calls → (result, self.new) ≡ next_from n (after n calls) self.old }
     {
-        let n = links.len();
-        let mut idx = self.next;
-        while idx < n {
-            if list.is_free(links, idx) {
-                idx += 1;
-            } else {
-                return InUse::At(idx, FreeListIterator { next: idx + 1 });
+        for idx in self.next..links.len() {
+            if !list.is_free(links, idx) {
+                self.next = idx + 1;
+                return Some(idx);
             }
         }
-        InUse::End
+        None
     }
 }

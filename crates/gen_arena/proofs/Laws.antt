@@ -6,9 +6,8 @@ use Rattle.free_list.specs.declared.FreeListIterator.{FreeListIterator}
 use Rattle.free_list.proofs.Laws.{Visits, end as list·end, more as list·more, iterates as list·iterates}
 use Rattle.gen_arena.specs.Arena.{ArenaCall, list_call, Arena, step, run, after, handle_of, raised, found, invalid, first_live, live_of, next_live, live}
 use Rattle.gen_arena.specs.declared.Handle.{Handle}
-use Rattle.gen_arena.specs.declared.Found.TheVariants.{Nothing}
+use Rattle.std.specs.Prelude.{Some, None}
 use Rattle.gen_arena.specs.declared.ArenaIterator.{ArenaIterator}
-use Rattle.gen_arena.specs.declared.Live.TheVariants.{At, End}
 
 run-snoc : (n : ℕ) (a : Arena) (cs : List ArenaCall) (c : ArenaCall) → run n a (cs ++ (c ∷ [])) ≡ step n (run n a cs) c
 run-snoc n a [] c = refl
@@ -28,8 +27,8 @@ slots-after n cs = slots-run n _ cs
 
 -- what the cursor c comes to, of n slots in the arena a, when it is stepped until the end
 pub data VisitsLive (n : ℕ) (a : Arena) : ArenaIterator → List Handle → Type 0 where
-  end : {c : ArenaIterator} → next_live n a c ≡ End → VisitsLive n a c []
-  more : {c d : ArenaIterator} {h : Handle} {hs : List Handle} → next_live n a c ≡ At h d → VisitsLive n a d hs → VisitsLive n a c (h ∷ hs)
+  end : {c : ArenaIterator} → next_live n a c ≡ (None, c) → VisitsLive n a c []
+  more : {c d : ArenaIterator} {h : Handle} {hs : List Handle} → next_live n a c ≡ (Some h, d) → VisitsLive n a d hs → VisitsLive n a c (h ∷ hs)
 
 visits : (n : ℕ) (a : Arena) {c : FreeListIterator} {xs : List ℕ} → Visits n a.slots c xs → VisitsLive n a (record { iterator = c }) (map (handle_of a.generations) xs)
 visits n a (list·end e) = end (ap (live_of a.generations) e)
@@ -42,11 +41,11 @@ iterates n a = visits n a (list·iterates n a.slots)
 -- ---- what handles find
 
 -- a handle finds nothing once its slot was freed: the slot is at another generation
-pub freed-finds-nothing : (gens : List ℕ) (i : ℕ) → i < length gens → get_or gens i 0 < 2 ^ 64 → found (raised gens i) (handle_of gens i) ≡ Nothing
+pub freed-finds-nothing : (gens : List ℕ) (i : ℕ) → i < length gens → get_or gens i 0 < 2 ^ 64 → found (raised gens i) (handle_of gens i) ≡ None
 freed-finds-nothing gens i l f =
     let g : get_or (raised gens i) i 0 ≡ (get_or gens i 0 + 1) % 2 ^ 64 = get_or-set_same gens i _ 0 l in
     rw (g, ne_eqb ((get_or gens i 0 + 1) % 2 ^ 64) (get_or gens i 0) (λ e. omega arith), and-false)
 
 -- the invalid handle finds nothing, since no slice has so many elements
-pub invalid-finds-nothing : (gens : List ℕ) → length gens < 2 ^ 64 → found gens invalid ≡ Nothing
+pub invalid-finds-nothing : (gens : List ℕ) → length gens < 2 ^ 64 → found gens invalid ≡ None
 invalid-finds-nothing gens l = rw (le-ltb 18446744073709551615 (length gens) (omega arith))

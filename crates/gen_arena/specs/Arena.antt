@@ -1,19 +1,10 @@
 -- Slots with generations, and what a run of calls makes of them. Nothing here speaks of the arrays.
-use Rattle.std.specs.Prelude.{ℕ, ◌+◌, ◌%◌, ◌^◌, Bool, true, false, cond, ◌&&◌, List, [], ◌∷◌, map, length, replicate, ◌==◌, nat_lt, slice_index, slice_set}
+use Rattle.std.specs.Prelude.{ℕ, ◌+◌, ◌%◌, ◌^◌, Bool, true, false, cond, ◌&&◌, List, [], ◌∷◌, Option, Some, None, map, length, replicate, ◌==◌, nat_lt, slice_index, slice_set}
 use Rattle.free_list.specs.Stack.{FreeListCall, allocate as list·allocate, free as list·free, up_from, freeable, step as list·step, used}
 use Rattle.free_list.specs.Grown.{first_cursor, next_from}
-use Rattle.free_list.specs.declared.Slot.{Slot}
-use Rattle.free_list.specs.declared.Slot.TheVariants.{At as Slot-as-At, Full as Slot-as-Full}
-use Rattle.free_list.specs.declared.InUse.{InUse}
-use Rattle.free_list.specs.declared.InUse.TheVariants.{At as InUse-as-At, End as InUse-as-End}
+use Rattle.free_list.specs.declared.FreeListIterator.{FreeListIterator}
 use Rattle.gen_arena.specs.declared.Handle.{Handle}
-use Rattle.gen_arena.specs.declared.NewHandle.{NewHandle}
-use Rattle.gen_arena.specs.declared.NewHandle.TheVariants.{Made, Full}
-use Rattle.gen_arena.specs.declared.Found.{Found}
-use Rattle.gen_arena.specs.declared.Found.TheVariants.{At, Nothing}
 use Rattle.gen_arena.specs.declared.ArenaIterator.{ArenaIterator}
-use Rattle.gen_arena.specs.declared.Live.{Live}
-use Rattle.gen_arena.specs.declared.Live.TheVariants.{At as Live-as-At, End}
 
 -- a call that can change the arena
 pub data ArenaCall : Type 0 where
@@ -57,27 +48,27 @@ abbrev pub handle_of : List ℕ → ℕ → Handle
 handle_of gens i = record { idx = i; generation = slice_index gens i }
 
 -- the answer of allocate: the free list's, as a handle
-abbrev pub made_of : List ℕ → Slot → NewHandle
-made_of gens (Slot-as-At i) = Made (handle_of gens i)
-made_of gens Slot-as-Full = Full
+abbrev pub made_of : List ℕ → Option ℕ → Option Handle
+made_of gens (Some i) = Some (handle_of gens i)
+made_of gens None = None
 
 -- is the handle's slot one of those with a generation, and that the handle's?
 abbrev pub current : List ℕ → Handle → Bool
 current gens h = nat_lt h.idx (length gens) && slice_index gens h.idx == h.generation
 
 -- the slot i, if so
-abbrev pub found_if : Bool → ℕ → Found
-found_if true i = At i
-found_if false i = Nothing
+abbrev pub found_if : Bool → ℕ → Option ℕ
+found_if true i = Some i
+found_if false i = None
 
 -- the answer of get
-abbrev pub found : List ℕ → Handle → Found
+abbrev pub found : List ℕ → Handle → Option ℕ
 found gens h = found_if (current gens h) h.idx
 
 -- the slot that was found, or n for none
-abbrev pub slot_or : ℕ → Found → ℕ
-slot_or n (At i) = i
-slot_or n Nothing = n
+abbrev pub slot_or : ℕ → Option ℕ → ℕ
+slot_or n (Some i) = i
+slot_or n None = n
 
 -- the handle that stands for none
 abbrev pub invalid : Handle
@@ -92,12 +83,11 @@ abbrev pub first_live : ArenaIterator
 first_live = record { iterator = first_cursor }
 
 -- what a cursor comes to: the free list's, as a handle
-abbrev pub live_of : List ℕ → InUse → Live
-live_of gens (InUse-as-At i c) = Live-as-At (handle_of gens i) (record { iterator = c })
-live_of gens InUse-as-End = End
+abbrev pub live_of : List ℕ → Option ℕ × FreeListIterator → Option Handle × ArenaIterator
+live_of gens (r, c) = (made_of gens r, record { iterator = c })
 
--- the answer of next, of n slots in the arena a, at the cursor c
-abbrev pub next_live : ℕ → Arena → ArenaIterator → Live
+-- the answer of next and the cursor that it leaves, of n slots in the arena a, at the cursor c
+abbrev pub next_live : ℕ → Arena → ArenaIterator → Option Handle × ArenaIterator
 next_live n a c = live_of a.generations (next_from n a.slots c.iterator)
 
 -- of n slots those in use, as handles, in rising order

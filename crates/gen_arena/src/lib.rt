@@ -1,71 +1,30 @@
 // Handles to slots, each with the generation of its slot: a slot that was freed is at another generation.
 // The arena keeps slot numbers alone, and what they stand for is kept beside it. The caller lends links, the
-// free list's array, and gens, the generation of each slot.
+// free list's array, and gens, the generation of each slot: memory is fixed, and the stores stand beside the arena.
 #![tactic(auto)]
 
-ghost use Rattle.std.specs.Prelude.{◌≡◌, ℕ, List, length, replicate, nat_le};
+ghost use Rattle.std.specs.Prelude.{◌≡◌, ℕ, List, length, nat_le};
 ghost use Rattle.free_list.specs.Stack.{capacity_of};
 ghost use Rattle.gen_arena.specs.Arena.{ArenaCall, after, invalid, is_invalid, found, slot_or, first_live, next_live};
 ghost use Rattle.gen_arena.specs.Grown.{GrownArena, IsArena, Creates, AllocatesHandle, FreesHandle};
 
-use free_list::{FreeList, FreeListIterator, InUse, Slot};
+use free_list::{FreeList, FreeListIterator};
 
 #[derive(Clone, Copy)]
 pub struct GenArena {
     pub free_list: FreeList,
 }
 
-#[derive(Clone, Copy)]
+#[derive(Clone, Copy, PartialEq, Eq)]
 pub struct Handle {
     pub idx: usize,
     pub generation: u64,
 }
 
-// What new makes; Uneven where there are not as many generations as links.
-#[derive(Clone, Copy)]
-pub enum Created {
-    Arena(GenArena),
-    Uneven,
-}
-
-// What allocate hands out.
-#[derive(Clone, Copy)]
-pub enum NewHandle {
-    Made(Handle),
-    Full,
-}
-
-#[derive(Clone, Copy)]
-pub struct Allocated {
-    pub arena: GenArena,
-    pub handle: NewHandle,
-}
-
-// What free leaves, and whether it freed the slot.
-#[derive(Clone, Copy)]
-pub struct Freed {
-    pub arena: GenArena,
-    pub done: bool,
-}
-
-// The slot that a handle finds.
-#[derive(Clone, Copy)]
-pub enum Found {
-    At(usize),
-    Nothing,
-}
-
-// A place among the slots.
+// A place among the slots: a value that borrows nothing, as the free list's.
 #[derive(Clone, Copy)]
 pub struct ArenaIterator {
     pub iterator: FreeListIterator,
-}
-
-// The handle that a cursor came to, with the cursor behind it.
-#[derive(Clone, Copy)]
-pub enum Live {
-    At(Handle, ArenaIterator),
-    End,
 }
 
 impl Handle {
@@ -82,10 +41,7 @@ impl Handle {
     pub fn is_invalid(self) -> bool
         ensures { result ≡ is_invalid self }
     {
-        if self.generation == u64::MAX {
-            return self.idx == usize::MAX;
-        }
-        false
+        self == Handle::new_invalid()
     }
 
     pub fn idx(self) -> usize
@@ -95,96 +51,61 @@ impl Handle {
     }
 }
 
-// Every generation is 0.
-fn clear(gens: &mut [u64])
-    ensures { gens.new ≡ replicate (length gens.old) 0 }
-{
-    let mut i: usize = 0;
-    while i < gens.len() {
-        gens[i] = 0;
-        i += 1;
-    }
-}
-
 impl GenArena {
-    // All slots free, at generation 0. Refused where the lengths differ.
-    pub fn new(links: &mut [usize], gens: &mut [u64]) -> Created
+    // All slots free, at generation 0. None where the lengths differ.
+    pub fn new(links: &mut [usize], gens: &mut [u64]) -> Option<GenArena>
         ensures { Creates links.old links.new gens.old gens.new result }
     {
         if links.len() != gens.len() {
-            return Created::Uneven;
+            return None;
         }
-        clear(gens);
+        gens.fill(0);
         let free_list = FreeList::new(links);
-        Created::Arena(GenArena { free_list })
+        Some(GenArena { free_list })
     }
 
-    // Takes the slot that the free list hands out, at its generation.
-    pub fn allocate(self, links: &mut [usize], gens: &[u64]) -> Allocated
-        requires { IsArena links.old gens.now self }
-        ensures { (n : ℕ) (calls : List ArenaCall) → GrownArena n links.old gens.now self calls → AllocatesHandle n calls links.old links.new gens.now self result }
+    // Takes the slot that the free list hands out, at its generation. None where none is free.
+    pub fn allocate(&mut self, links: &mut [usize], gens: &[u64]) -> Option<Handle>
+        requires { IsArena links.old gens.now self.old }
+        ensures { (n : ℕ) (calls : List ArenaCall) → GrownArena n links.old gens.now self.old calls → AllocatesHandle n calls links.old links.new gens.now self.old self.new result }
     {
-        let list = self.free_list;
-        let taken = list.allocate(links);
-        let slot = taken.slot;
-        let free_list = taken.list;
-        let arena = GenArena { free_list };
-        match slot {
-            Slot::At(idx) => {
-                let generation = gens[idx];
-                let handle = NewHandle::Made(Handle { idx, generation });
-                Allocated { arena, handle }
-            }
-            Slot::Full => Allocated {
-                arena,
-                handle: NewHandle::Full,
-            },
-        }
+        let idx = self.free_list.allocate(links)?;
+        Some(Handle {
+            idx,
+            generation: gens[idx],
+        })
     }
 
     // Gives the handle's slot back, whatever the handle's generation, and raises the slot's own by one, round at
     // 2 to the 64. Refused where there is no such slot or it is free already.
-    pub fn free(self, links: &mut [usize], gens: &mut [u64], handle: Handle) -> Freed
-        requires { IsArena links.old gens.old self }
-        ensures { (n : ℕ) (calls : List ArenaCall) → GrownArena n links.old gens.old self calls → FreesHandle n calls handle links.old links.new gens.old gens.new self result }
+    pub fn free(&mut self, links: &mut [usize], gens: &mut [u64], handle: Handle) -> bool
+        requires { IsArena links.old gens.old self.old }
+        ensures { (n : ℕ) (calls : List ArenaCall) → GrownArena n links.old gens.old self.old calls → FreesHandle n calls handle links.old links.new gens.old gens.new self.old self.new result }
     {
         let idx = handle.idx;
-        let list = self.free_list;
-        let freed = list.free(links, idx);
-        if freed.done {
-            gens[idx] = std::num::wrapping_add_u64(gens[idx], 1);
-            let free_list = freed.list;
-            let arena = GenArena { free_list };
-            return Freed { arena, done: true };
+        if !self.free_list.free(links, idx) {
+            return false;
         }
-        Freed {
-            arena: self,
-            done: false,
-        }
+        gens[idx] = gens[idx].wrapping_add(1);
+        true
     }
 
     // The handle's slot, where its generation is the handle's: also of a slot that is free.
-    pub fn get(gens: &[u64], handle: Handle) -> Found
+    pub fn get(gens: &[u64], handle: Handle) -> Option<usize>
         ensures { result ≡ found gens.now handle }
     {
         let idx = handle.idx;
-        if gens.len() <= idx {
-            return Found::Nothing;
+        if idx < gens.len() && gens[idx] == handle.generation {
+            return Some(idx);
         }
-        if gens[idx] == handle.generation {
-            return Found::At(idx);
-        }
-        Found::Nothing
+        None
     }
 
-    // The slot that get finds, or N for none.
+    // The slot that get finds, or N for none: a number, since it stands for the Rust's arena[handle], which has no None.
     pub fn index(gens: &[u64], handle: Handle) -> usize
         ensures { result ≡ slot_or (length gens.now) (found gens.now handle) }
     {
-        match GenArena::get(gens, handle) {
-            Found::At(idx) => idx,
-            Found::Nothing => gens.len(),
-        }
+        GenArena::get(gens, handle).unwrap_or(gens.len())
     }
 
     // How many slots are free.
@@ -192,8 +113,7 @@ impl GenArena {
         requires { (gens : List ℕ) × IsArena links.now gens self }
         ensures { (n : ℕ) (gens : List ℕ) (calls : List ArenaCall) → GrownArena n links.now gens self calls → result ≡ capacity_of n (after n calls).slots }
     {
-        let list = self.free_list;
-        list.capacity(links)
+        self.free_list.capacity(links)
     }
 
     // Are count slots free, or more?
@@ -208,26 +128,20 @@ impl GenArena {
     pub fn into_iter(self) -> ArenaIterator
         ensures { result ≡ first_live }
     {
-        let list = self.free_list;
-        let iterator = list.into_iter();
+        let iterator = self.free_list.into_iter();
         ArenaIterator { iterator }
     }
 }
 
 impl ArenaIterator {
-    // The first slot in use at the cursor or above it, as a handle at the slot's generation.
-    pub fn next(self, links: &[usize], gens: &[u64], arena: GenArena) -> Live
+    // The first slot in use at the cursor or above it, as a handle at the slot's generation, with the cursor put behind it. None where
+    // there is none: the cursor stays.
+    pub fn next(&mut self, links: &[usize], gens: &[u64], arena: GenArena) -> Option<Handle>
         requires { IsArena links.now gens.now arena }
-        ensures { (n : ℕ) (calls : List ArenaCall) → GrownArena n links.now gens.now arena calls → result ≡ next_live n (after n calls) self }
+        ensures { (n : ℕ) (calls : List ArenaCall) → GrownArena n links.now gens.now arena calls → (result, self.new) ≡ next_live n (after n calls) self.old }
     {
-        let cursor = self.iterator;
-        let list = arena.free_list;
-        match cursor.next(links, list) {
-            InUse::At(idx, iterator) => {
-                let generation = gens[idx];
-                Live::At(Handle { idx, generation }, ArenaIterator { iterator })
-            }
-            InUse::End => Live::End,
-        }
+        let idx = self.iterator.next(links, arena.free_list)?;
+        let generation = gens[idx];
+        Some(Handle { idx, generation })
     }
 }

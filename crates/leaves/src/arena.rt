@@ -1,23 +1,61 @@
 // The arena's answers.
 ghost use Rattle.gen_arena.specs.Grown.{IsArena};
 
-use crate::print;
-use crate::print::{Tally, freed_or_refused, number, text, yes_or_no};
-use gen_arena::{ArenaIterator, Created, Found, GenArena, Handle, Live, NewHandle};
+use crate::print::{Key, Tally, yes_or_no};
+use crate::slots::{Slots, fill, free_every_third, free_line, free_odd, in_use};
+use gen_arena::{ArenaIterator, GenArena, Handle};
 use std::io::Stdout;
 
-// An arena with the handles that have gone by.
-#[derive(Clone, Copy)]
-pub(crate) struct Gone {
-    pub(crate) arena: GenArena,
-    pub(crate) tally: Tally,
+// An arena with the links and the generations that it was lent.
+#[derive(Drop)]
+struct Arena<'a> {
+    arena: GenArena,
+    links: &'a mut [usize],
+    gens: &'a mut [u64],
 }
 
-// A cursor with the handles that it came to.
-#[derive(Clone, Copy)]
-pub(crate) struct Visited {
-    pub(crate) cursor: ArenaIterator,
-    pub(crate) tally: Tally,
+// The prover lets a struct lend its fields out together only where each goes as &mut.
+fn allocate(arena: &mut GenArena, links: &mut [usize], gens: &mut [u64]) -> Option<Handle>
+    requires { IsArena links.old gens.old arena.old }
+    ensures { IsArena links.new gens.new arena.new }
+{
+    arena.allocate(links, gens)
+}
+
+impl Slots for Arena<'_> {
+    type Key = Handle;
+
+    type Cursor = ArenaIterator;
+
+    ghost is_grown = { λ s. IsArena s.links.now s.gens.now s.arena };
+
+    fn size(&self) -> usize {
+        self.links.len()
+    }
+
+    fn count(&self) -> usize {
+        self.arena.free_list.count
+    }
+
+    fn capacity(&self) -> usize {
+        self.arena.capacity(self.links)
+    }
+
+    fn allocate(&mut self) -> Option<Handle> {
+        allocate(&mut self.arena, self.links, self.gens)
+    }
+
+    fn free(&mut self, h: Handle) -> bool {
+        self.arena.free(self.links, self.gens, h)
+    }
+
+    fn cursor(&self) -> ArenaIterator {
+        self.arena.into_iter()
+    }
+
+    fn next(&self, cursor: &mut ArenaIterator) -> Option<Handle> {
+        cursor.next(self.links, self.gens, self.arena)
+    }
 }
 
 // A handle of slot 0.
@@ -25,349 +63,166 @@ fn first(generation: u64) -> Handle {
     Handle { idx: 0, generation }
 }
 
-fn allocate(out: Stdout, arena: GenArena, links: &mut [usize], gens: &[u64], tally: Tally) -> Gone
-    requires { IsArena links.old gens.now arena }
-    ensures { IsArena links.new gens.now result.arena }
-{
-    let r = arena.allocate(links, gens);
-    let handle = r.handle;
-    let after = r.arena;
-    match handle {
-        NewHandle::Made(h) => {
-            let more = tally.handle(out, h);
-            Gone {
-                arena: after,
-                tally: more,
-            }
-        }
-        NewHandle::Full => {
-            text(out, b", full");
-            Gone {
-                arena: after,
-                tally,
-            }
-        }
-    }
-}
-
-fn free(
-    out: Stdout,
-    arena: GenArena,
-    links: &mut [usize],
-    gens: &mut [u64],
-    h: Handle,
-    tally: Tally,
-) -> Gone
-    requires { IsArena links.old gens.old arena }
-    ensures { IsArena links.new gens.new result.arena }
-{
-    let r = arena.free(links, gens, h);
-    let after = r.arena;
-    if r.done {
-        let more = tally.handle(out, h);
-        return Gone {
-            arena: after,
-            tally: more,
+impl Arena<'_> {
+    // What get and index say of a handle.
+    fn get_line(&self, out: Stdout, h: Handle) {
+        let _ = print!(out; "get ");
+        h.show(out);
+        let _ = match GenArena::get(self.gens, h) {
+            Some(idx) => print!(out; ": slot {idx}"),
+            None => print!(out; ": nothing"),
         };
+        let _ = println!(out; ", index {}", GenArena::index(self.gens, h));
     }
-    text(out, b" refused");
-    Gone {
-        arena: after,
-        tally,
+
+    // The handles of slots in use.
+    fn live_line(&self, out: Stdout)
+        requires { IsArena self.now.links.now self.now.gens.now self.now.arena }
+    {
+        let _ = print!(out; "live:");
+        in_use(out, self)
     }
-}
 
-// Allocates until it is full, and once more.
-fn fill(out: Stdout, arena: GenArena, links: &mut [usize], gens: &[u64]) -> GenArena
-    requires { IsArena links.old gens.now arena }
-    ensures { IsArena links.new gens.now result }
-{
-    text(out, b"allocate:");
-    let mut left = arena.capacity(links);
-    let mut arena = arena;
-    let mut tally = Tally::new(left);
-    while left > 0 {
-        let r = allocate(out, arena, links, gens, tally);
-        arena = r.arena;
-        tally = r.tally;
-        left -= 1;
-    }
-    let r = allocate(out, arena, links, gens, tally);
-    r.tally.end(out);
-    r.arena
-}
-
-// Frees the slots 0, 3, 6, .. going round, by handles at one generation.
-fn free_every_third(
-    out: Stdout,
-    arena: GenArena,
-    links: &mut [usize],
-    gens: &mut [u64],
-    generation: u64,
-) -> GenArena
-    requires { IsArena links.old gens.old arena }
-    ensures { IsArena links.new gens.new result }
-{
-    text(out, b"free every third:");
-    let n = links.len();
-    let mut arena = arena;
-    let mut tally = Tally::new(n);
-    let mut i: usize = 0;
-    while i < n {
-        let idx = i * 3 % n;
-        let r = free(out, arena, links, gens, Handle { idx, generation }, tally);
-        arena = r.arena;
-        tally = r.tally;
-        i += 1;
-    }
-    tally.end(out);
-    arena
-}
-
-// Frees the slots 1, 3, 5, .., by handles at one generation.
-fn free_odd(
-    out: Stdout,
-    arena: GenArena,
-    links: &mut [usize],
-    gens: &mut [u64],
-    generation: u64,
-) -> GenArena
-    requires { IsArena links.old gens.old arena }
-    ensures { IsArena links.new gens.new result }
-{
-    text(out, b"free odd:");
-    let n = links.len();
-    let mut arena = arena;
-    let mut tally = Tally::new(n / 2);
-    let mut idx: usize = 1;
-    while idx < n {
-        let r = free(out, arena, links, gens, Handle { idx, generation }, tally);
-        arena = r.arena;
-        tally = r.tally;
-        idx += 2;
-    }
-    tally.end(out);
-    arena
-}
-
-fn free_line(
-    out: Stdout,
-    arena: GenArena,
-    links: &mut [usize],
-    gens: &mut [u64],
-    h: Handle,
-) -> GenArena
-    requires { IsArena links.old gens.old arena }
-    ensures { IsArena links.new gens.new result }
-{
-    text(out, b"free ");
-    print::handle(out, h);
-    text(out, b":");
-    let r = arena.free(links, gens, h);
-    freed_or_refused(out, r.done);
-    r.arena
-}
-
-// What get and index say of a handle.
-fn get_line(out: Stdout, gens: &[u64], h: Handle) {
-    text(out, b"get ");
-    print::handle(out, h);
-    match GenArena::get(gens, h) {
-        Found::At(idx) => {
-            text(out, b": slot ");
-            number(out, idx);
+    // Each slot with its generation.
+    fn generations_line(&self, out: Stdout) {
+        let _ = print!(out; "generations:");
+        let mut tally = Tally::new(self.gens.len());
+        for (idx, generation) in self.gens.iter().enumerate() {
+            tally.put(
+                out,
+                Handle {
+                    idx,
+                    generation: *generation,
+                },
+            );
         }
-        Found::Nothing => text(out, b": nothing"),
+        tally.end(out)
     }
-    text(out, b", index ");
-    number(out, GenArena::index(gens, h));
-    text(out, b"\n")
-}
 
-// One step of a cursor.
-fn next(
-    out: Stdout,
-    cursor: ArenaIterator,
-    links: &[usize],
-    gens: &[u64],
-    arena: GenArena,
-    tally: Tally,
-) -> Visited
-    requires { IsArena links.now gens.now arena }
-{
-    match cursor.next(links, gens, arena) {
-        Live::At(h, behind) => {
-            let more = tally.handle(out, h);
-            Visited {
-                cursor: behind,
-                tally: more,
-            }
-        }
-        Live::End => {
-            text(out, b", end");
-            Visited { cursor, tally }
-        }
+    fn room_line(&self, out: Stdout, count: usize)
+        requires { IsArena self.now.links.now self.now.gens.now self.now.arena }
+    {
+        let room = yes_or_no(self.arena.has_capacity_for(self.links, count));
+        let _ = println!(out; "room for {count}? {room}");
     }
-}
 
-// The handles of slots in use by the cursor, and one step more.
-fn live_line(out: Stdout, arena: GenArena, links: &[usize], gens: &[u64])
-    requires { IsArena links.now gens.now arena }
-{
-    text(out, b"live:");
-    let mut left = arena.free_list.count;
-    let mut cursor = arena.into_iter();
-    let mut tally = Tally::new(left);
-    while left > 0 {
-        let r = next(out, cursor, links, gens, arena, tally);
-        cursor = r.cursor;
-        tally = r.tally;
-        left -= 1;
+    fn state_lines(&self, out: Stdout)
+        requires { IsArena self.now.links.now self.now.gens.now self.now.arena }
+    {
+        let n = self.size();
+        let _ = println!(out; "capacity {}", self.capacity());
+        self.room_line(out, 0);
+        self.room_line(out, n / 2);
+        self.room_line(out, n);
+        self.room_line(out, usize::MAX)
     }
-    let r = next(out, cursor, links, gens, arena, tally);
-    r.tally.end(out)
-}
-
-// Each slot with its generation.
-fn generations_line(out: Stdout, gens: &[u64]) {
-    text(out, b"generations:");
-    let mut tally = Tally::new(gens.len());
-    let mut idx: usize = 0;
-    while idx < gens.len() {
-        let generation = gens[idx];
-        tally = tally.handle(out, Handle { idx, generation });
-        idx += 1;
-    }
-    tally.end(out)
-}
-
-fn room_line(out: Stdout, arena: GenArena, links: &[usize], gens: &[u64], count: usize)
-    requires { IsArena links.now gens.now arena }
-{
-    text(out, b"room for ");
-    number(out, count);
-    text(out, b"?");
-    yes_or_no(out, arena.has_capacity_for(links, count));
-    text(out, b"\n")
-}
-
-fn state_lines(out: Stdout, arena: GenArena, links: &[usize], gens: &[u64])
-    requires { IsArena links.now gens.now arena }
-{
-    let n = links.len();
-    text(out, b"capacity ");
-    number(out, arena.capacity(links));
-    text(out, b"\n");
-    room_line(out, arena, links, gens, 0);
-    room_line(out, arena, links, gens, n / 2);
-    room_line(out, arena, links, gens, n);
-    room_line(out, arena, links, gens, usize::MAX)
 }
 
 // A new that is lent one generation too few.
 fn uneven_line(out: Stdout, links: &mut [usize], gens: &mut [u64]) {
-    if gens.len() == 0 {
+    if gens.is_empty() {
         return;
     }
-    match GenArena::new(links, &mut gens[1..]) {
-        Created::Arena(_) => text(out, b"made\n"),
-        Created::Uneven => text(out, b"one generation too few: uneven\n"),
-    }
+    let _ = match GenArena::new(links, &mut gens[1..]) {
+        Some(_) => println!(out; "made"),
+        None => println!(out; "one generation too few: uneven"),
+    };
 }
 
 // The handle that stands for none.
 fn invalid_line(out: Stdout) {
     let h = Handle::new_invalid();
-    text(out, b"invalid handle: ");
-    print::handle(out, h);
-    text(out, b", slot ");
-    number(out, h.idx());
-    text(out, b", invalid?");
-    yes_or_no(out, h.is_invalid());
-    text(out, b", 0@0?");
-    yes_or_no(out, first(0).is_invalid());
-    text(out, b"\n")
+    let _ = print!(out; "invalid handle: ");
+    h.show(out);
+    let _ = print!(out;
+        ", slot {}, invalid? {}",
+        h.idx(),
+        yes_or_no(h.is_invalid())
+    );
+    let _ = println!(out; ", 0@0? {}", yes_or_no(first(0).is_invalid()));
 }
 
 // Past the slots there is nothing to free and nothing to find.
-fn past_lines(out: Stdout, arena: GenArena, links: &mut [usize], gens: &mut [u64]) -> GenArena
-    requires { IsArena links.old gens.old arena }
-    ensures { IsArena links.new gens.new result }
+fn past_lines(out: Stdout, arena: &mut Arena)
+    requires { IsArena arena.old.links.now arena.old.gens.now arena.old.arena }
+    ensures { IsArena arena.new.links.now arena.new.gens.now arena.new.arena }
 {
-    let idx = links.len();
-    let past = Handle { idx, generation: 0 };
+    let past = Handle {
+        idx: arena.size(),
+        generation: 0,
+    };
     let none = Handle::new_invalid();
-    get_line(out, gens, past);
-    get_line(out, gens, none);
-    let arena = free_line(out, arena, links, gens, past);
-    free_line(out, arena, links, gens, none)
+    arena.get_line(out, past);
+    arena.get_line(out, none);
+    free_line(out, arena, past);
+    free_line(out, arena, none)
 }
 
 // All slots free, then none.
-fn fresh_lines(out: Stdout, arena: GenArena, links: &mut [usize], gens: &mut [u64]) -> GenArena
-    requires { IsArena links.old gens.old arena }
-    ensures { IsArena links.new gens.new result }
+fn fresh_lines(out: Stdout, arena: &mut Arena)
+    requires { IsArena arena.old.links.now arena.old.gens.now arena.old.arena }
+    ensures { IsArena arena.new.links.now arena.new.gens.now arena.new.arena }
 {
-    state_lines(out, arena, links, gens);
-    let arena = fill(out, arena, links, gens);
-    state_lines(out, arena, links, gens);
-    past_lines(out, arena, links, gens)
+    arena.state_lines(out);
+    fill(out, arena);
+    arena.state_lines(out);
+    past_lines(out, arena)
 }
 
 // All freed in another order, and none twice; old handles find nothing then, and free slots are found at their generation.
-fn again_lines(out: Stdout, arena: GenArena, links: &mut [usize], gens: &mut [u64]) -> GenArena
-    requires { IsArena links.old gens.old arena }
-    ensures { IsArena links.new gens.new result }
+fn again_lines(out: Stdout, arena: &mut Arena)
+    requires { IsArena arena.old.links.now arena.old.gens.now arena.old.arena }
+    ensures { IsArena arena.new.links.now arena.new.gens.now arena.new.arena }
 {
-    get_line(out, gens, first(0));
-    get_line(out, gens, first(1));
-    let arena = free_every_third(out, arena, links, gens, 0);
-    let arena = free_line(out, arena, links, gens, first(1));
-    get_line(out, gens, first(0));
-    get_line(out, gens, first(1));
-    live_line(out, arena, links, gens);
-    arena
+    arena.get_line(out, first(0));
+    arena.get_line(out, first(1));
+    free_every_third(out, arena, 0);
+    free_line(out, arena, first(1));
+    arena.get_line(out, first(0));
+    arena.get_line(out, first(1));
+    arena.live_line(out)
 }
 
 // The new handles are at generation 1. A free goes by the slot alone, so an old handle frees the new one's slot, and the
 // generation goes up from the slot's own.
-fn old_lines(out: Stdout, arena: GenArena, links: &mut [usize], gens: &mut [u64]) -> GenArena
-    requires { IsArena links.old gens.old arena }
-    ensures { IsArena links.new gens.new result }
+fn old_lines(out: Stdout, arena: &mut Arena)
+    requires { IsArena arena.old.links.now arena.old.gens.now arena.old.arena }
+    ensures { IsArena arena.new.links.now arena.new.gens.now arena.new.arena }
 {
-    let arena = fill(out, arena, links, gens);
-    let arena = free_line(out, arena, links, gens, first(0));
-    get_line(out, gens, first(1));
-    get_line(out, gens, first(2));
-    arena
+    fill(out, arena);
+    free_line(out, arena, first(0));
+    arena.get_line(out, first(1));
+    arena.get_line(out, first(2))
 }
 
 // Half of the slots in use, less slot 0, then all.
-fn half_lines(out: Stdout, arena: GenArena, links: &mut [usize], gens: &mut [u64])
-    requires { IsArena links.old gens.old arena }
+fn half_lines(out: Stdout, arena: &mut Arena)
+    requires { IsArena arena.old.links.now arena.old.gens.now arena.old.arena }
 {
-    let arena = free_odd(out, arena, links, gens, 1);
-    live_line(out, arena, links, gens);
-    generations_line(out, gens);
-    state_lines(out, arena, links, gens);
-    let arena = fill(out, arena, links, gens);
-    live_line(out, arena, links, gens)
+    free_odd(out, arena, 1);
+    arena.live_line(out);
+    arena.generations_line(out);
+    arena.state_lines(out);
+    fill(out, arena);
+    arena.live_line(out)
 }
 
-fn lines(out: Stdout, arena: GenArena, links: &mut [usize], gens: &mut [u64])
-    requires { IsArena links.old gens.old arena }
+fn lines(out: Stdout, arena: &mut Arena)
+    requires { IsArena arena.old.links.now arena.old.gens.now arena.old.arena }
 {
-    let arena = fresh_lines(out, arena, links, gens);
-    let arena = again_lines(out, arena, links, gens);
-    let arena = old_lines(out, arena, links, gens);
-    half_lines(out, arena, links, gens)
+    fresh_lines(out, arena);
+    again_lines(out, arena);
+    old_lines(out, arena);
+    half_lines(out, arena)
 }
 
 pub(crate) fn run(out: Stdout, links: &mut [usize], gens: &mut [u64]) {
     invalid_line(out);
     uneven_line(out, links, gens);
     match GenArena::new(links, gens) {
-        Created::Arena(arena) => lines(out, arena, links, gens),
-        Created::Uneven => text(out, b"uneven\n"),
+        Some(arena) => lines(out, &mut Arena { arena, links, gens }),
+        None => {
+            let _ = println!(out; "uneven");
+        }
     }
 }

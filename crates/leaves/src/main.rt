@@ -4,30 +4,22 @@
 mod arena;
 mod list;
 mod print;
+mod slots;
 
-use print::{number, text};
 use std::io::Stdout;
 
 // Both over the same links, one after the other.
 fn run(out: Stdout, links: &mut [usize], gens: &mut [u64]) {
-    text(out, b"N = ");
-    number(out, links.len());
-    text(out, b"\n\nfree list\n");
+    let _ = println!(out; "N = {}\n\nfree list", links.len());
     list::run(out, links);
-    text(out, b"\narena\n");
+    let _ = println!(out; "\narena");
     arena::run(out, links, gens);
-    text(out, b"\n")
+    let _ = println!(out);
 }
 
 fn main(rt: HostRuntime) {
     let out = rt.stdout();
-    let mut links4 = [7usize; 4];
-    let mut gens4 = [7u64; 4];
-    run(out, &mut links4, &mut gens4);
-    let mut links64 = [7usize; 64];
-    let mut gens64 = [7u64; 64];
-    run(out, &mut links64, &mut gens64);
-    let mut links1024 = [7usize; 1024];
-    let mut gens1024 = [7u64; 1024];
-    run(out, &mut links1024, &mut gens1024)
+    run(out, &mut [7; 4], &mut [7; 4]);
+    run(out, &mut [7; 64], &mut [7; 64]);
+    run(out, &mut [7; 1024], &mut [7; 1024])
 }

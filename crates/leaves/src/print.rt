@@ -1,45 +1,61 @@
-// What the program writes: text, numbers, and slots in the order in which they come.
+// What the program writes of slots, in the order in which they come.
 use gen_arena::Handle;
 use std::io::Stdout;
 
-pub(crate) fn text(out: Stdout, bytes: &[u8]) {
-    let _ = out.write_all(bytes);
+// What names a slot: its number, or a handle.
+pub(crate) trait Key: Copy {
+    // That of a slot at a generation.
+    fn at(idx: usize, generation: u64) -> Self;
+
+    fn show(self, out: Stdout);
+
+    // The check with this one more in it, which depends on their order.
+    fn mixed(self, check: u64) -> u64;
 }
 
-pub(crate) fn number(out: Stdout, n: usize) {
-    let _ = out.print(n);
+fn mixed(check: u64, x: u64) -> u64 {
+    (check % 1000003 * 31 + x % 1000003 + 1) % 1000003
 }
 
-pub(crate) fn yes_or_no(out: Stdout, answer: bool) {
-    if answer {
-        text(out, b" yes")
-    } else {
-        text(out, b" no")
+impl Key for usize {
+    fn at(idx: usize, _generation: u64) -> usize {
+        idx
+    }
+
+    fn show(self, out: Stdout) {
+        let _ = print!(out; "{self}");
+    }
+
+    fn mixed(self, check: u64) -> u64 {
+        mixed(check, self as u64)
     }
 }
 
-pub(crate) fn freed_or_refused(out: Stdout, done: bool) {
-    if done {
-        text(out, b" freed\n")
-    } else {
-        text(out, b" refused\n")
+// A handle is written as slot@generation.
+impl Key for Handle {
+    fn at(idx: usize, generation: u64) -> Handle {
+        Handle { idx, generation }
+    }
+
+    fn show(self, out: Stdout) {
+        let _ = print!(out; "{}@{}", self.idx, self.generation);
+    }
+
+    fn mixed(self, check: u64) -> u64 {
+        mixed(mixed(check, self.idx as u64), self.generation)
     }
 }
 
-// A handle, as slot@generation.
-pub(crate) fn handle(out: Stdout, h: Handle) {
-    number(out, h.idx);
-    text(out, b"@");
-    let _ = out.print(h.generation);
+pub(crate) fn yes_or_no(answer: bool) -> &'static str {
+    if answer { "yes" } else { "no" }
 }
 
-// Slots in the order in which they come. The first four and the last four of the total that is expected are written,
-// and all go into the check.
-#[derive(Clone, Copy)]
+// The keys that have gone by. The first four and the last four of the total that is expected are written, and all go into the check.
+#[derive(Drop)]
 pub(crate) struct Tally {
-    pub(crate) total: usize,
-    pub(crate) seen: usize,
-    pub(crate) check: u64,
+    total: usize,
+    seen: usize,
+    check: u64,
 }
 
 impl Tally {
@@ -51,58 +67,25 @@ impl Tally {
         }
     }
 
-    // One number more in the check, which depends on their order.
-    fn mixed(self, x: u64) -> Tally {
-        let check = self.check % 1000003 * 31 + x % 1000003 + 1;
-        Tally {
-            total: self.total,
-            seen: self.seen,
-            check: check % 1000003,
-        }
-    }
-
     // Is the next one to be written? Where the first left out would stand, two dots do.
-    fn is_shown(self, out: Stdout) -> bool {
-        let seen = self.seen;
-        if seen < 4 {
-            return true;
+    fn is_shown(&self, out: Stdout) -> bool {
+        if self.seen == 4 {
+            let _ = print!(out; " ..");
         }
-        if seen == 4 {
-            text(out, b" ..");
-        }
-        self.total <= std::num::wrapping_add_usize(seen, 4)
+        self.seen < 4 || self.total <= self.seen.wrapping_add(4)
     }
 
-    fn counted(self) -> Tally {
-        Tally {
-            total: self.total,
-            seen: std::num::wrapping_add_usize(self.seen, 1),
-            check: self.check,
-        }
-    }
-
-    pub(crate) fn slot(self, out: Stdout, slot: usize) -> Tally {
+    pub(crate) fn put<K: Key>(&mut self, out: Stdout, key: K) {
         if self.is_shown(out) {
-            text(out, b" ");
-            number(out, slot);
+            let _ = print!(out; " ");
+            key.show(out);
         }
-        self.counted().mixed(slot as u64)
-    }
-
-    pub(crate) fn handle(self, out: Stdout, h: Handle) -> Tally {
-        if self.is_shown(out) {
-            text(out, b" ");
-            handle(out, h);
-        }
-        self.counted().mixed(h.idx as u64).mixed(h.generation)
+        self.seen = self.seen.wrapping_add(1);
+        self.check = key.mixed(self.check);
     }
 
     // The end of the line: how many there were, and the check.
     pub(crate) fn end(self, out: Stdout) {
-        text(out, b"; ");
-        number(out, self.seen);
-        text(out, b" slots, check ");
-        let _ = out.print(self.check);
-        text(out, b"\n")
+        let _ = println!(out; "; {} slots, check {}", self.seen, self.check);
     }
 }

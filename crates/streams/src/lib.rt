@@ -15,6 +15,8 @@ pub fn read_full<R: Read>(input: &mut R, buffer: &mut [u8]) -> io::Result<usize>
     ensures bytes { IfOk result (λ n. Consumes (R.remaining input.old) (R.remaining input.new) (take n buffer.new)) }
     ensures end { IfOk result (λ n. n < length buffer.old → IsAtEnd (R.remaining input.new)) }
 {
+    // Counts what the reads gave, each as much as it had: no for goes by that, and a slice that shrinks needs a count as well for
+    // the answer.
     let mut done = 0;
     while done < buffer.len() {
         let n = input.read(&mut buffer[done..])?;

@@ -4,14 +4,14 @@ use Rattle.gen_arena.proofs.GenArena.allocate.Goals as goal
 
 pub offset_bounds-gens-idx : goal.offset_bounds-gens-idx
 offset_bounds-gens-idx c =
-    let h : c.in-At.idx < length c.args.gens.now = slot-fits _ _ _ _ _ c.requires.grown c.allocate-taken.result _ (c.allocate-taken.ensures _ _ c.requires.grown.list) _ c.in-At.is in
+    let h : c.in_ok-idx.idx < length c.args.gens.now = slot-fits _ _ _ _ _ c.requires.grown c.allocate.result _ _ (c.allocate.ensures _ _ c.requires.grown.list) _ c.in_ok-idx.was in
     search rules
 
 pub bounds-gens-idx : goal.bounds-gens-idx
-bounds-gens-idx c = slot-fits _ _ _ _ _ c.requires.grown c.allocate-taken.result _ (c.allocate-taken.ensures _ _ c.requires.grown.list) _ c.in-At.is
+bounds-gens-idx c = slot-fits _ _ _ _ _ c.requires.grown c.allocate.result _ _ (c.allocate.ensures _ _ c.requires.grown.list) _ c.in_ok-idx.was
 
-pub returns-in-At : goal.returns-in-At
-returns-in-At c = λ n calls g. let r = c.allocate-taken in allocates n calls _ _ _ g r.result _ (r.ensures n _ g.list) _ c.in-At.is
+pub returns-in_err-idx : goal.returns-in_err-idx
+returns-in_err-idx c = λ n calls g. rw c.from_residual.ensures (allocates n calls _ _ _ g c.allocate.result _ _ (c.allocate.ensures n _ g.list) _ c.in_err-idx.was)
 
-pub returns-in-Full : goal.returns-in-Full
-returns-in-Full c = λ n calls g. let r = c.allocate-taken in allocates n calls _ _ _ g r.result _ (r.ensures n _ g.list) _ c.in-Full.is
+pub returns : goal.returns
+returns c = λ n calls g. allocates n calls _ _ _ g c.allocate.result _ _ (c.allocate.ensures n _ g.list) _ c.in_ok-idx.was

@@ -1,6 +1,0 @@
-use Rattle.gen_arena.proofs.Calls.{freed-arena}
-use Rattle.std.proofs.Common.{rules}
-use Rattle.leaves.proofs.arena.free_line.Goals as goal
-
-pub returns : goal.returns
-returns c = freed-arena c.free-r.result c.requires c.free-r.ensures

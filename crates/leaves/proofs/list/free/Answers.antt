@@ -1,9 +1,0 @@
-use Rattle.free_list.proofs.Calls.{freed-grown}
-use Rattle.std.proofs.Common.{rules}
-use Rattle.leaves.proofs.list.free.Goals as goal
-
-pub returns-then-r : goal.returns-then-r
-returns-then-r c = freed-grown c.free-r.result c.requires c.free-r.ensures
-
-pub returns : goal.returns
-returns c = freed-grown c.free-r.result c.requires c.free-r.ensures
