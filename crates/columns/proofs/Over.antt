@@ -1,30 +1,17 @@
 -- Digits are put over columns that hold spaces, from the right to the left.
 use mathlib.Core.Path.{◌≡◌, refl, sym, ap, ◌∙◌}
-use mathlib.Core.Bool.{Bool, true, false, ◌&&◌, true≢false}
-use mathlib.Core.List.{List, [], ◌∷◌, ◌++◌}
+use mathlib.Core.Logic.{◌⊎◌, inl, inr}
+use mathlib.Core.List.{List, [], ◌∷◌, ◌++◌, append_assoc}
 use Prim.Native.Nat.{ℕ, zero, suc, ◌+◌, ◌-◌, ◌/◌, ◌%◌, ◌<◌, ◌≤◌}
 use native.Mathlib.Numerals.{add-one}
 use native.Mathlib.Omega.{arith}
-use native.Mathlib.Decide.{dec_lt}
-use lib.ListN.{length, set}
-use lib.Seq.{set-set, set_comm, sets}
-use borrow.Author.Tests.{ltb-true, ltb-false, lt-ltb, ne_eqb}
-use Rattle.definitions.specs.Tests.{◌<?◌}
+use lib.ListN.{length, set, take, drop}
+use lib.Seq.{set-set, set_comm, sets, sets-eq}
+use borrow.Rule.Slice.PartMut.{put_mid}
+use Rattle.std.proofs.lemmas.List.{drop-drop}
+use borrow.Author.Tests.{ne_eqb}
 use Rattle.definitions.specs.Script.{digit_or_space, spaced}
 use Rattle.columns.proofs.Room.{length-spaced, set-behind}
-
--- ---- a test for both
-
-module _ (k m : ℕ) (r : Bool) (e : r ≡ (1 <? k) && (9 <? m)) (t : r ≡ true) where
-  both : (a b : Bool) → (a && b) ≡ true → (a ≡ true) × (b ≡ true)
-  both true b q = (refl, q)
-  both false b q = (q, absurd (true≢false (sym q)))
-
-  pub two-columns : 1 < k
-  two-columns = ltb-true 1 k (both (1 <? k) (9 <? m) (sym e ∙ t)).0
-
-  pub two_digits : 9 < m
-  two_digits = ltb-true 9 m (both (1 <? k) (9 <? m) (sym e ∙ t)).1
 
 -- ---- bytes put over a list
 
@@ -35,6 +22,14 @@ sets-set [] l i j v apart = refl
 sets-set (x ∷ a) l i j v apart =
     ap (λ (r : List ℕ). sets r (suc i) a) (set_comm l j i v x (apart i (omega arith) (omega arith)))
     ∙ sets-set a (set l i x) (suc i) j v (λ k p q. apart k (omega arith) (omega arith))
+
+-- a part of a list that is written is bytes put over it
+pub put-sets : (at k : ℕ) (l new : List ℕ) → at + k ≤ length l → length new ≡ k → put_mid at k l new ≡ sets l at new
+put-sets at k l new h e =
+    ap (λ (r : List ℕ). take at l ++ (new ++ r)) (drop-drop k at l)
+    ∙ sym (append_assoc (take at l) new (drop (at + k) l))
+    ∙ ap (λ (j : ℕ). take at l ++ new ++ drop (at + j) l) (sym e)
+    ∙ sym (sets-eq new l at (omega arith))
 
 -- what is put over as many others hides them
 pub sets_over : (a b l : List ℕ) (i : ℕ) → length a ≡ length b → sets (sets l i a) i b ≡ sets l i b
@@ -107,19 +102,13 @@ module _ (at : ℕ) (goal : List ℕ) where
       rw (left, place, right, next, less) (digit k (m / 10) (set l (at + suc k) (48 + m % 10)) (omega arith) (digit (suc k) m l (omega arith) o))
 
   -- one, where there are no two
-  pub one-over : (k m : ℕ) (l : List ℕ) → Over at goal l k m → 0 < k → 0 < m → ((1 <? k) && (9 <? m)) ≡ false
+  pub one-over : (k m : ℕ) (l : List ℕ) → Over at goal l k m → 0 < k → 0 < m → (k ≤ 1) ⊎ (m ≤ 9)
       → set l (at + k - 1) (48 + m % 10) ≡ goal
   one-over zero m l o h g e = absurd (omega arith)
   one-over (suc k) m l o h g e =
       let place : at + suc k - 1 ≡ at + k = omega arith in
       let done : Over at goal (set l (at + k) (48 + m % 10)) k (m / 10) = digit k m l g o in
-      rw place
-      (elim (dec_lt 1 (suc k)) [
-        | yes t ↦
-            let small : m ≤ 9 = ltb-false 9 m (simp (lt-ltb 1 (suc k) t) at e) in
-            no_digit done (omega arith)
-        | no t ↦ no-column done (omega arith)
-      ])
+      rw place (elim e [ inl few ↦ no-column done (omega arith) | inr small ↦ no_digit done (omega arith) ])
 
 -- ---- spaces first, then digits
 

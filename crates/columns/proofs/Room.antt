@@ -11,8 +11,7 @@ use lib.Dec.{leb}
 use borrow.Author.Tests.{le-leb, lt-leb, leb-true, leb-false, not-true, not-false}
 use Rattle.definitions.specs.Script.{digit_or_space, spaced, number_in}
 use Rattle.columns.specs.Columns.{place_after, slice_after, Wrote}
-use Rattle.columns.specs.declared.Put.{Put}
-use Rattle.columns.specs.declared.Put.TheVariants.{At, NoRoom}
+use Rattle.std.specs.Prelude.{Option, Some, None}
 
 pub sets-append : (a b l : List ℕ) (i : ℕ) → sets l i (a ++ b) ≡ sets (sets l i a) (i + length a) b
 sets-append [] b l i =
@@ -60,19 +59,19 @@ number-sets at w n l e q =
     ∙ set-behind at (w - 1) (48 + n % 10) (spaced (w - 1) (n / 10)) e (length-spaced (w - 1) (n / 10))
 
 -- k bytes: no room, room, and what was written where there is room
-pub wrote_none : (at k : ℕ) (new e : List ℕ) → length new ≡ k → length e < at + k → Wrote at new e NoRoom e
+pub wrote_none : (at k : ℕ) (new e : List ℕ) → length new ≡ k → length e < at + k → Wrote at new e None e
 unfolding place_after slice_after
 wrote_none at k new e len h =
     record { place = rw (lt-leb (at + length new) (length e) (omega arith)); slice = rw (lt-leb (at + length new) (length e) (omega arith)) }
 
 pub wrote-all : (at k : ℕ) (new e l : List ℕ) → length new ≡ k → at + k ≤ length e → l ≡ sets e at new
-    → Wrote at new e (At (at + k)) l
+    → Wrote at new e (Some (at + k)) l
 unfolding place_after slice_after
 wrote-all at k new e l len h q =
     record
-    { place = rw (le-leb (at + length new) (length e) (omega arith)) (ap (λ (j : ℕ). At (at + j)) (sym len)); slice = rw (le-leb (at + length new) (length e) (omega arith)) q }
+    { place = rw (le-leb (at + length new) (length e) (omega arith)) (ap (λ (j : ℕ). Some (at + j)) (sym len)); slice = rw (le-leb (at + length new) (length e) (omega arith)) q }
 
-pub written : (at k : ℕ) (new e : List ℕ) (r : Put) (l : List ℕ) → length new ≡ k → at + k ≤ length e → Wrote at new e r l
+pub written : (at k : ℕ) (new e : List ℕ) (r : Option ℕ) (l : List ℕ) → length new ≡ k → at + k ≤ length e → Wrote at new e r l
     → l ≡ sets e at new
 unfolding slice_after
 written at k new e r l len h w = rw (le-leb (at + length new) (length e) (omega arith)) at w.slice
@@ -96,11 +95,11 @@ module _ (at w n b : ℕ) (q : b ≡ w - 1) where
   length-next : length (number_in w n) ≡ b + 1
   length-next = length_last w n ∙ ap (λ (k : ℕ). k + 1) (sym q)
 
-  pub number-none : (e : List ℕ) → length e < at + (b + 1) → Wrote at (number_in w n) e NoRoom e
+  pub number-none : (e : List ℕ) → length e < at + (b + 1) → Wrote at (number_in w n) e None e
   number-none e h = wrote_none at (b + 1) (number_in w n) e length-next h
 
   pub number-all : (l e : List ℕ) → at + (b + 1) ≤ length e → l ≡ sets e at (spaced b (n / 10))
-      → Wrote at (number_in w n) e (At (at + (b + 1))) (set l (at + b) (48 + n % 10))
+      → Wrote at (number_in w n) e (Some (at + (b + 1))) (set l (at + b) (48 + n % 10))
   number-all l e h f =
       wrote-all at (b + 1) (number_in w n) e (set l (at + b) (48 + n % 10)) length-next h
       (ap (λ (k : ℕ). set l (at + k) (48 + n % 10)) q

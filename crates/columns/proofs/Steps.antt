@@ -1,11 +1,14 @@
 -- One byte of a column: what digits_of and column_of say of the bytes from i on.
-use mathlib.Core.Path.{◌≡◌, sym, ap, ◌∙◌}
+use mathlib.Core.Path.{◌≡◌, refl, sym, ap, ◌∙◌}
 use mathlib.Core.Bool.{true, false}
 use mathlib.Core.List.{List, [], ◌∷◌}
 use Prim.Native.Nat.{ℕ, suc, ◌+◌, ◌-◌, ◌*◌, ◌<◌, ◌≤◌}
 use native.Mathlib.Numerals.{add-one}
 use native.Mathlib.Omega.{arith}
-use lib.ListN.{length, get_or, drop, drop_of_length-le, length-drop}
+use native.Mathlib.Decide.{dec_lt, ℕ_discrete}
+use lib.ListN.{length, get_or, take, drop, drop_of_length-le, length-drop}
+use Rattle.std.proofs.lemmas.List.{take_all}
+use Rattle.std.specs.Char.{is_ascii_digit}
 use lib.Seq.{drop-cons}
 use borrow.Author.Tests.{lt-ltb, le-ltb, le-leb, lt-leb, eq-eqb, ne_eqb}
 use Rattle.definitions.specs.Tests.{fits}
@@ -102,29 +105,56 @@ module _ (s : List ℕ) (i : ℕ) (h : length s ≤ i) where
   unfolding column_of
   column-end = rw none
 
--- four spaces, as one number
-space-first : (x t y : ℕ) → x < 256 → x + 256 * t ≡ 32 + 256 * y → (x ≡ 32) × (t ≡ y)
-space-first x t y h e = let same : t ≡ y = omega arith in (omega arith, same)
+-- four spaces, and one, are passed
+module _ (s : List ℕ) where
+  pub rest-is : (k : ℕ) → take (length s - k) (drop k s) ≡ drop k s
+  rest-is k = take_all (length s - k) (drop k s) (simp length-drop (omega arith))
 
-module _ (a b c d : ℕ) (p : a < 256) (q : b < 256) (u : c < 256)
-    (e : a + 256 * b + 65536 * (c + 256 * d) ≡ 538976288) where
-  spaces-are : (a ≡ 32) × (b ≡ 32) × (c ≡ 32) × (d ≡ 32)
-  spaces-are =
-      let first = space-first a (b + 256 * (c + 256 * d)) 2105376 p (omega arith) in
-      let second = space-first b (c + 256 * d) 8224 q first.1 in
-      let third = space-first c d 32 u second.1 in
-      (first.0, second.0, third.0, third.1)
+  pub rest-length : (k : ℕ) → length (take (length s - k) (drop k s)) ≡ length s - k
+  rest-length k = ap length (rest-is k) ∙ simp length-drop
 
-  pub column-spaces : (s : List ℕ) (i : ℕ) → i + 4 ≤ length s → a ≡ get_or s i 0 → b ≡ get_or s (i + 1) 0 → c ≡ get_or s (i + 2) 0
-      → d ≡ get_or s (i + 3) 0 → column_of (drop (i + 4) s) ≡ column_of (drop i s)
-  column-spaces s i h w x y z =
-      let four : i + 4 ≡ i + 3 + 1 = omega arith in
-      let three : i + 3 ≡ i + 2 + 1 = omega arith in
-      let two : i + 2 ≡ i + 1 + 1 = omega arith in
-      ap (λ (k : ℕ). column_of (drop k s)) four
-      ∙ column-space s (i + 3) (omega arith) (sym z ∙ spaces-are.3)
-      ∙ ap (λ (k : ℕ). column_of (drop k s)) three
-      ∙ column-space s (i + 2) (omega arith) (sym y ∙ spaces-are.2)
-      ∙ ap (λ (k : ℕ). column_of (drop k s)) two
-      ∙ column-space s (i + 1) (omega arith) (sym x ∙ spaces-are.1)
-      ∙ column-space s i (omega arith) (sym w ∙ spaces-are.0)
+  pub one_passed : 1 ≤ length s → get_or s 0 0 ≡ 32 → column_of (take (length s - 1) (drop 1 s)) ≡ column_of s
+  one_passed h a = ap column_of (rest-is 1) ∙ column-space s 0 h a
+
+  pub fours-passed : 4 ≤ length s → get_or s 0 0 ≡ 32 → get_or s 1 0 ≡ 32 → get_or s 2 0 ≡ 32 → get_or s 3 0 ≡ 32
+      → column_of (take (length s - 4) (drop 4 s)) ≡ column_of s
+  fours-passed h a b c d =
+      ap column_of (rest-is 4)
+      ∙ column-space s 3 (omega arith) d
+      ∙ column-space s 2 (omega arith) c
+      ∙ column-space s 1 (omega arith) b
+      ∙ column-space s 0 (omega arith) a
+
+-- what std calls an ASCII digit
+pub is-ascii-digit : (b : ℕ) → is_ascii_digit b ≡ is_digit b
+unfolding is_digit
+is-ascii-digit b = refl
+
+-- the first byte is no space: a column of 0 alone; no column; and one that begins with another digit
+module _ (s : List ℕ) where
+  pub zero_alone : length s ≡ 1 → get_or s 0 0 ≡ 48 → numbers (0 ∷ []) ≡ column_of s
+  zero_alone h e = column-zero s 0 (omega arith) e (sym h)
+
+  pub not_a_column : (0 < length s → get_or s 0 0 ≡ 32 → ⊥) → (length s ≡ 1 → get_or s 0 0 ≡ 48 → ⊥)
+      → (0 < length s → 48 < get_or s 0 0 → get_or s 0 0 ≤ 57 → ⊥) → unread ≡ column_of s
+  not_a_column no-space no-zero no-digit =
+      elim (dec_lt 0 (length s)) [
+        | yes h ↦
+            elim (ℕ_discrete (get_or s 0 0) 48) [
+              | yes e ↦ column-zeros s 0 h e (λ l. no-zero (sym l) e)
+              | no n ↦
+                  column-no s 0 h (no-space h) n
+                  (elim (dec_lt (get_or s 0 0) 48) [
+                    | yes below ↦ below-digits (get_or s 0 0) below
+                    | no above ↦ elim (dec_lt 57 (get_or s 0 0)) [
+                      | yes more ↦ above-digits (get_or s 0 0) more
+                      | no less ↦ absurd (no-digit h (omega arith) (omega arith))
+                    ]
+                  ])
+            ]
+        | no h ↦ column-end s 0 (omega arith)
+      ]
+
+  pub other-digit : 1 ≤ length s → 48 < get_or s 0 0 → get_or s 0 0 ≤ 57
+      → digits_of (get_or s 0 0 - 48) (take (length s - 1) (drop 1 s)) ≡ column_of s
+  other-digit h lt le = ap (digits_of (get_or s 0 0 - 48)) (rest-is s 1) ∙ column-digit s 0 h lt le

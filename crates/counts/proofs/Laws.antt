@@ -1,6 +1,7 @@
 -- What the counts of a region become, from what becomes of each.
 use Rattle.std.specs.Prelude.{if◌then◌else◌}
-use Prim.Native.Nat.{ℕ, ◌+◌, ◌-◌, ◌<◌, ◌^◌}
+use native.Mathlib.Decide.{dec_lt}
+use Prim.Native.Nat.{ℕ, min, ◌+◌, ◌-◌, ◌^◌}
 use native.Mathlib.Omega.{arith}
 use mathlib.Core.Path.{◌≡◌, refl}
 use mathlib.Core.Bool.{Bool, true, false}
@@ -20,13 +21,14 @@ plus_of a b = capped (a + b)
 abbrev pub left_of : ℕ → ℕ → ℕ → ℕ
 left_of holders count by = if holders ≤? 1 then 0 else count - by
 
-pub full : (a b : ℕ) → 18446744073709551615 - a < b → 18446744073709551615 ≡ capped (a + b)
+-- the library's sum that stays below 2^64 is the capped one
+pub capped-min : (n : ℕ) → min n 18446744073709551615 ≡ capped n
 unfolding capped fits
-full a b l = simp (le-ltb (a + b) (2 ^ 64) (omega arith))
-
-pub roomy : (n : ℕ) → n < 2 ^ 64 → n ≡ capped n
-unfolding capped fits
-roomy n l = simp (lt-ltb n (2 ^ 64) l)
+capped-min n =
+    elim (dec_lt n (2 ^ 64)) [
+      | yes l ↦ simp (lt-ltb n (2 ^ 64) l) (omega arith)
+      | no g ↦ simp (le-ltb n (2 ^ 64) (omega arith)) (omega arith)
+    ]
 
 -- what the functions of regions make of one
 abbrev pub raised : ℕ → Region → Region

@@ -1,7 +1,7 @@
 -- A line's columns, one after the other.
-use Rattle.std.specs.Prelude.{if◌then◌else◌}
+use Rattle.std.specs.Prelude.{if◌then◌else◌, Option, Some, None}
 use mathlib.Core.Path.{◌≡◌, refl, sym, ap, ◌∙◌}
-use mathlib.Core.Bool.{Bool, true, false, not}
+use mathlib.Core.Bool.{Bool, true, false}
 use mathlib.Core.List.{List, [], ◌∷◌, ◌++◌}
 use Prim.Native.Nat.{ℕ, zero, suc, ◌+◌, ◌-◌, ◌*◌, ◌<◌, ◌≤◌}
 use native.Mathlib.Numerals.{add-one}
@@ -9,15 +9,12 @@ use native.Mathlib.Omega.{arith}
 use native.Mathlib.Decide.{dec_lt}
 use lib.ListN.{length, get_or, take, drop, set, replicate, length-drop, drop_of_length-le}
 use lib.Seq.{drop-drop, take-suc-set}
-use borrow.Author.Tests.{le-leb, lt-leb, not-true, not-false}
+use borrow.Author.Tests.{le-leb, lt-leb}
 use Rattle.definitions.specs.Tests.{◌≤?◌}
 use Rattle.definitions.specs.Script.{Read, numbers, unread, also_read, column_of, first_then, columns_of, arity, call_of, line_of}
 use Rattle.columns.specs.Columns.{column_from}
-use Rattle.columns.specs.declared.Column.TheVariants.{Number, Malformed}
-use Rattle.columns.specs.declared.Column.{Column}
 use Rattle.lines.specs.Lines.{line_from, read_as}
-use Rattle.lines.specs.declared.Line.{Line}
-use Rattle.lines.specs.declared.Line.TheVariants as is
+use Rattle.definitions.specs.declared.call.Call.{Call}
 
 -- numbers that were read before others
 abbrev pub also_all : List ℕ → Read → Read
@@ -37,13 +34,13 @@ also-unread [] = refl
 also-unread (m ∷ ns) = ap (also_read m) (also-unread ns)
 
 -- a column that was read says one number, and one that was not says none, whatever follows
-pub one_number : (r : Read) (n : ℕ) → column_from r ≡ Number n → (more : Read) → first_then r more ≡ also_read n more
+pub one_number : (r : Read) (n : ℕ) → column_from r ≡ Some n → (more : Read) → first_then r more ≡ also_read n more
 one_number (numbers []) n e more = absurd (let z : ◌≡◌ {A = ℕ} 0 1 = cc in omega arith)
 one_number (numbers (m ∷ [])) n e more = let q : m ≡ n = cc in ap (λ (x : ℕ). also_read x more) q
 one_number (numbers (m ∷ x ∷ ns)) n e more = absurd (let z : ◌≡◌ {A = ℕ} 0 1 = cc in omega arith)
 one_number unread n e more = absurd (let z : ◌≡◌ {A = ℕ} 0 1 = cc in omega arith)
 
-pub no_number : (r : Read) → column_from r ≡ Malformed → (more : Read) → first_then r more ≡ unread
+pub no_number : (r : Read) → column_from r ≡ None → (more : Read) → first_then r more ≡ unread
 no_number (numbers []) e more = refl
 no_number (numbers (m ∷ [])) e more = absurd (let z : ◌≡◌ {A = ℕ} 0 1 = cc in omega arith)
 no_number (numbers (m ∷ x ∷ ns)) e more = refl
@@ -107,18 +104,18 @@ module _ (n : ℕ) (s : List ℕ) where
         ∙ ap (λ (l : List ℕ). first_then (column_of (take 21 (drop (3 + 21 * i) s))) (columns_of (replicate (n - (i + 1)) 21) l))
         (drop-drop 21 (3 + 21 * i) s ∙ ap (λ (k : ℕ). drop k s) z)
 
-    module _ (i : ℕ) (h : i < n) (found : List ℕ) (inv : Found i found) (r : Column)
+    module _ (i : ℕ) (h : i < n) (found : List ℕ) (inv : Found i found) (r : Option ℕ)
         (e : r ≡ column_from (column_of (take (3 + 21 * i + 21 - (3 + 21 * i)) (drop (3 + 21 * i) s)))) where
       said : r ≡ column_from (column_of (take 21 (drop (3 + 21 * i) s)))
       said = let z : 3 + 21 * i + 21 - (3 + 21 * i) ≡ 21 = omega arith in rw z at e
 
-      pub found-no : r ≡ Malformed → columns_of (replicate n 21) (drop 3 s) ≡ read_as false (take n found)
+      pub found-no : r ≡ None → columns_of (replicate n 21) (drop 3 s) ≡ unread
       unfolding Found
       found-no q =
           inv ∙ ap (also_all (take i found)) (next i h ∙ no_number (column_of (take 21 (drop (3 + 21 * i) s))) (sym said ∙ q) (rest (i + 1)))
           ∙ also-unread (take i found)
 
-      pub found-more : (v : ℕ) → r ≡ Number v → i < length found → Found (i + 1) (set found i v)
+      pub found-more : (v : ℕ) → r ≡ Some v → i < length found → Found (i + 1) (set found i v)
       unfolding Found
       found-more v q l =
           inv ∙ ap (also_all (take i found)) (next i h ∙ one_number (column_of (take 21 (drop (3 + 21 * i) s))) v (sym said ∙ q) (rest (i + 1)))
@@ -126,7 +123,7 @@ module _ (n : ℕ) (s : List ℕ) where
           ∙ ap (λ (ns : List ℕ). also_all ns (rest (i + 1))) (sym (take-suc-set found i v l) ∙ ap (λ (k : ℕ). take k (set found i v)) (sym (add-one i)))
 
     pub found_all : (i : ℕ) (found : List ℕ) → i ≤ n → n ≤ i → Found i found
-        → columns_of (replicate n 21) (drop 3 s) ≡ read_as true (take n found)
+        → columns_of (replicate n 21) (drop 3 s) ≡ read_as n (Some found)
     unfolding Found rest columns_of
     found_all i found le ge inv =
         let z : n - i ≡ 0 = omega arith in
@@ -138,7 +135,7 @@ module _ (n : ℕ) (s : List ℕ) where
         ∙ ap (λ (k : ℕ). numbers (take k found)) q
 
 -- a line
-pub line-empty : (s : List ℕ) → length s ≡ 0 → is.Malformed ≡ line_from (line_of s)
+pub line-empty : (s : List ℕ) → length s ≡ 0 → None ≡ line_from (line_of s)
 unfolding line_of
 line-empty [] e = refl
 line-empty (b ∷ bs) e = absurd (omega arith)
@@ -166,7 +163,7 @@ module _ (s : List ℕ) (h : 0 < length s) (n : ℕ) (a : n ≡ arity (get_or s 
       (sym e ∙ ap (λ (k : ℕ). columns_of (2 ∷ replicate k 21) (drop 1 s)) a)
       ∙ ap line_from (sym (columns-are s h))
 
-  pub line-length : (length s ≡ 3 + 21 * n → ⊥) → is.Malformed ≡ line_from (line_of s)
+  pub line-length : (length s ≡ 3 + 21 * n → ⊥) → None ≡ line_from (line_of s)
   line-length l =
       elim (dec_lt (length (drop 1 s)) 2) [
         | yes t ↦ says (short 2 (replicate n 21) (drop 1 s) t)
@@ -176,34 +173,33 @@ module _ (s : List ℕ) (h : 0 < length s) (n : ℕ) (a : n ≡ arity (get_or s 
             (wrong-length n (drop 2 (drop 1 s)) (simp length-drop (λ e. l (omega (arith, length-drop 1 s))))))
       ]
 
-  module _ (fills : length s ≡ 3 + 21 * n) (r : Column) (e : r ≡ column_from (column_of (take 2 (drop 1 s)))) where
+  module _ (fills : length s ≡ 3 + 21 * n) (r : Option ℕ) (e : r ≡ column_from (column_of (take 2 (drop 1 s)))) where
     behind : columns_of (2 ∷ replicate n 21) (drop 1 s)
         ≡ first_then (column_of (take 2 (drop 1 s))) (columns_of (replicate n 21) (drop 3 s))
     behind =
         first-column 2 (replicate n 21) (drop 1 s) (simp length-drop (omega arith))
         ∙ ap (λ (l : List ℕ). first_then (column_of (take 2 (drop 1 s))) (columns_of (replicate n 21) l)) (drop-drop 2 1 s)
 
-    pub line-compartment : r ≡ Malformed → is.Malformed ≡ line_from (line_of s)
+    pub line-compartment : r ≡ None → None ≡ line_from (line_of s)
     line-compartment q =
         says (behind ∙ no_number (column_of (take 2 (drop 1 s))) (sym e ∙ q) (columns_of (replicate n 21) (drop 3 s)))
 
-    module _ (k : ℕ) (q : r ≡ Number k) (found : List ℕ) (f : Bool)
-        (g : columns_of (replicate n 21) (drop 3 s) ≡ read_as f (take n found)) where
-      all_of : columns_of (2 ∷ replicate n 21) (drop 1 s) ≡ also_read k (read_as f (take n found))
+    module _ (k : ℕ) (q : r ≡ Some k) (all : Option (List ℕ)) (g : columns_of (replicate n 21) (drop 3 s) ≡ read_as n all) where
+      all_of : columns_of (2 ∷ replicate n 21) (drop 1 s) ≡ also_read k (read_as n all)
       all_of =
           behind ∙ one_number (column_of (take 2 (drop 1 s))) k (sym e ∙ q) (columns_of (replicate n 21) (drop 3 s))
           ∙ ap (also_read k) g
 
-      pub line-numbers : not f ≡ true → is.Malformed ≡ line_from (line_of s)
-      line-numbers t = says (all_of ∙ ap (λ (b : Bool). also_read k (read_as b (take n found))) (not-true f t))
+      pub line-numbers : all ≡ None → None ≡ line_from (line_of s)
+      line-numbers t = says (all_of ∙ ap (λ (x : Option (List ℕ)). also_read k (read_as n x)) t)
 
-      pub line-call : not f ≡ false → length found ≡ 4 → (l : Line)
+      pub line-call : (found : List ℕ) → all ≡ Some found → length found ≡ 4 → (l : Option Call)
           → l ≡ line_from
           (call_of (get_or s 0 0)
           (numbers (k ∷ take (arity (get_or s 0 0)) (get_or found 0 0 ∷ get_or found 1 0 ∷ get_or found 2 0 ∷ get_or found 3 0 ∷ []))))
           → l ≡ line_from (line_of s)
-      line-call t len l w =
+      line-call found t len l w =
           w
           ∙ ap (λ (ns : List ℕ). line_from (call_of (get_or s 0 0) (numbers (k ∷ take (arity (get_or s 0 0)) ns)))) (sym (four found len))
           ∙ ap (λ (j : ℕ). line_from (call_of (get_or s 0 0) (numbers (k ∷ take j found)))) (sym a)
-          ∙ says (all_of ∙ ap (λ (b : Bool). also_read k (read_as b (take n found))) (not-false f t))
+          ∙ says (all_of ∙ ap (λ (x : Option (List ℕ)). also_read k (read_as n x)) t)

@@ -1,6 +1,6 @@
 -- A script's bytes in pieces: what the lines say that begin with bytes held and go on with others. 88 bytes are held at most,
 -- and no line so long is of the form.
-use Rattle.std.specs.Prelude.{if◌then◌else◌}
+use Rattle.std.specs.Prelude.{if◌then◌else◌, None}
 use Prim.Native.Nat.{ℕ, suc, ◌+◌, ◌-◌, ◌<◌, ◌≤◌}
 use mathlib.Core.Path.{◌≡◌, refl, sym, ap, ◌∙◌}
 use mathlib.Core.Bool.{Bool, true, false, true≢false}
@@ -14,7 +14,6 @@ use Rattle.definitions.specs.Tests.{◌<?◌, ◌=?◌}
 use Rattle.definitions.specs.Script.{Line, call, malformed, cons_byte, lines_of, arity, line_of}
 use Rattle.lines.specs.Lines.{line_from, lines_with, takes}
 use Rattle.lines.specs.declared.Taken.{Taken}
-use Rattle.lines.specs.declared.Line.TheVariants as is
 use Rattle.lines.proofs.Fields.{line-length}
 
 -- ---- a line of 88 bytes is not of the form
@@ -31,7 +30,7 @@ arity-few l =
     (few (l =? 67) 2 _ (omega arith)
     (few (l =? 77) 4 _ (omega arith) (few (l =? 85) 2 _ (omega arith) (few (l =? 71) 2 _ (omega arith) (few (l =? 83) 1 0 (omega arith) (omega arith)))))))
 
-no_call : (l : Line) → is.Malformed ≡ line_from l → l ≡ malformed
+no_call : (l : Line) → None ≡ line_from l → l ≡ malformed
 no_call malformed e = refl
 no_call (call c) e = absurd (let z : ◌≡◌ {A = ℕ} 0 1 = cc in omega arith)
 

@@ -1,5 +1,5 @@
 -- Lines are put one after the other, as many as fit. Assumes nothing.
-use Rattle.std.specs.Prelude.{if◌then◌else◌}
+use Rattle.std.specs.Prelude.{if◌then◌else◌, Option, Some, None}
 use Prim.Native.Nat.{ℕ, ◌+◌, ◌-◌, ◌<◌, ◌≤◌}
 use mathlib.Core.Path.{◌≡◌, refl, sym, ap, ◌∙◌}
 use mathlib.Core.Bool.{Bool, true, false}
@@ -11,26 +11,24 @@ use borrow.Author.Tests.{leb-true, leb-false, le-leb, lt-leb}
 use Rattle.definitions.specs.Tests.{◌≤?◌, each}
 use Rattle.definitions.specs.Script.{whole_lines}
 use Rattle.columns.specs.Columns.{place_after, slice_after, Wrote}
-use Rattle.columns.specs.declared.Put.{Put}
-use Rattle.columns.specs.declared.Put.TheVariants.{At, NoRoom}
 
 -- ---- a line is put, or does not fit
 
-module _ (at : ℕ) (new out out' : List ℕ) (r : Put) (w : Wrote at new out r out') where
-  pub put-at : (k : ℕ) → r ≡ At k → (at + length new ≤ length out) × (k ≡ at + length new) × (out' ≡ sets out at new)
+module _ (at : ℕ) (new out out' : List ℕ) (r : Option ℕ) (w : Wrote at new out r out') where
+  pub put-at : (k : ℕ) → r ≡ Some k → (at + length new ≤ length out) × (k ≡ at + length new) × (out' ≡ sets out at new)
   unfolding place_after slice_after
   put-at k e = go (at + length new ≤? length out) refl (sym w.place ∙ e) w.slice
     where
-      go : (b : Bool) → (at + length new ≤? length out) ≡ b → (if b then At (at + length new) else NoRoom) ≡ At k → out' ≡ (if b then sets out at new else out)
+      go : (b : Bool) → (at + length new ≤? length out) ≡ b → (if b then Some (at + length new) else None) ≡ Some k → out' ≡ (if b then sets out at new else out)
           → (at + length new ≤ length out) × (k ≡ at + length new) × (out' ≡ sets out at new)
       go true d f s = (leb-true (at + length new) (length out) d, (cc), s)
       go false d f s = absurd (let z : ◌≡◌ {A = ℕ} 0 1 = cc in omega arith)
 
-  pub put-none : r ≡ NoRoom → (length out < at + length new) × (out' ≡ out)
+  pub put-none : r ≡ None → (length out < at + length new) × (out' ≡ out)
   unfolding place_after slice_after
   put-none e = go (at + length new ≤? length out) refl (sym w.place ∙ e) w.slice
     where
-      go : (b : Bool) → (at + length new ≤? length out) ≡ b → (if b then At (at + length new) else NoRoom) ≡ NoRoom → out' ≡ (if b then sets out at new else out)
+      go : (b : Bool) → (at + length new ≤? length out) ≡ b → (if b then Some (at + length new) else None) ≡ None → out' ≡ (if b then sets out at new else out)
           → (length out < at + length new) × (out' ≡ out)
       go true d f s = absurd (let z : ◌≡◌ {A = ℕ} 0 1 = cc in omega arith)
       go false d f s = (leb-false (at + length new) (length out) d, s)

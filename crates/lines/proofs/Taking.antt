@@ -10,9 +10,11 @@ use borrow.Author.Tests.{lt-ltb, le-ltb, ne_eqb}
 use Rattle.lines.specs.Lines.{takes}
 
 module _ (line : List ℕ) (len used : ℕ) (input : List ℕ) where
-  pub taken-all : length input ≤ used → takes line len used (drop used input) ≡ (line, record { used = used; len = len; ended = false })
+  pub taken-all : (last : ℕ) → length input ≤ used → used ≡ last
+      → takes line len used (drop used input) ≡ (line, record { used = last; len = len; ended = false })
   unfolding takes
-  taken-all l = rw (drop_of_length-le input l)
+  taken-all last l e =
+      rw (drop_of_length-le input l) (ap (λ (u : ℕ). (line, record { used = u; len = len; ended = false })) e)
 
   module _ (l : used < length input) where
     one : suc used ≡ used + 1

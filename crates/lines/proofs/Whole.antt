@@ -1,5 +1,5 @@
 -- A call's line holds no byte 10, so it ends where the first byte 10 stands behind it.
-use Rattle.std.specs.Prelude.{if◌then◌else◌}
+use Rattle.std.specs.Prelude.{if◌then◌else◌, Some}
 use Prim.Native.Nat.{ℕ, suc, ◌+◌, ◌-◌, ◌*◌, ◌<◌, ◌≤◌}
 use mathlib.Core.Path.{◌≡◌, refl, sym, ap, subst, ◌∙◌}
 use mathlib.Core.Bool.{Bool, true, false, ◌&&◌}
@@ -13,7 +13,6 @@ use Rattle.definitions.specs.Tests.{◌≤?◌, ◌=?◌, fits}
 use Rattle.definitions.specs.Script.{Read, numbers, unread, Line, call, malformed, is_digit, digits_of, column_of, first_then, columns_of, arity, call_of, line_of, cons_byte, lines_of}
 use Rattle.definitions.specs.declared.call.Call.{Call}
 use Rattle.lines.specs.Lines.{line_from, lines_with, Begins}
-use Rattle.lines.specs.declared.Line.TheVariants as is
 use Rattle.lines.proofs.Pieces.{lines-own}
 
 -- ---- no byte 10
@@ -130,12 +129,12 @@ only-line [] h l = absurd (omega arith)
 only-line (b ∷ []) h l = simp (ne_eqb b 10 h.0)
 only-line (b ∷ c ∷ bs) h l = simp (ne_eqb b 10 h.0) (ap (cons_byte b) (only-line (c ∷ bs) h.1 (omega arith)))
 
-says-call : (l : Line) (c : Call) → is.Call c ≡ line_from l → l ≡ call c
+says-call : (l : Line) (c : Call) → Some c ≡ line_from l → l ≡ call c
 says-call (call d) c e = let q : d ≡ c = cc in ap call q
 says-call malformed c e = absurd (let z : ◌≡◌ {A = ℕ} 0 1 = cc in omega arith)
 
 pub begins : (input : List ℕ) (from size : ℕ) (c : Call) → size < length input - from → get_or input (from + size) 0 ≡ 10
-    → is.Call c ≡ line_from (line_of (take (from + size - from) (drop from input))) → Begins input from c (from + size + 1)
+    → Some c ≡ line_from (line_of (take (from + size - from) (drop from input))) → Begins input from c (from + size + 1)
 begins input from size c h e q =
     let z : from + size - from ≡ size = omega arith in
     let bs : List ℕ = take size (drop from input) in

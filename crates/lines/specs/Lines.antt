@@ -1,23 +1,19 @@
 -- What a line says as the code's value.
-use Rattle.std.specs.Prelude.{ℕ, ◌+◌, ◌<◌, ◌≤◌, ◌≡◌, Bool, true, false, List, [], ◌∷◌, ◌++◌, length, drop, set, if◌then◌else◌}
+use Rattle.std.specs.Prelude.{ℕ, ◌+◌, ◌<◌, ◌≤◌, ◌≡◌, true, false, List, [], ◌∷◌, ◌++◌, length, take, drop, set, if◌then◌else◌, Option, Some, None}
 use Rattle.definitions.specs.Tests.{◌<?◌, ◌=?◌}
 use Rattle.definitions.specs.Script.{Read, numbers, unread, call, malformed, line_of, lines_of}
 use Rattle.definitions.specs.Script as Script
 use Rattle.definitions.specs.declared.call.Call as definitions
-use Rattle.lines.specs.declared.Line.{Line}
-use Rattle.lines.specs.declared.Line.TheVariants.{Call, Malformed}
 use Rattle.lines.specs.declared.Taken.{Taken}
-use Rattle.lines.specs.declared.Ahead.{Ahead}
-use Rattle.lines.specs.declared.Ahead.TheVariants.{Whole, Other}
 
-abbrev pub line_from : Script.Line → Line
-line_from (call c) = Call c
-line_from malformed = Malformed
+abbrev pub line_from : Script.Line → Option definitions.Call
+line_from (call c) = Some c
+line_from malformed = None
 
--- numbers that were found, or not
-abbrev pub read_as : Bool → List ℕ → Read
-read_as true ns = numbers ns
-read_as false ns = unread
+-- the first n of numbers that were found, or none
+abbrev pub read_as : ℕ → Option (List ℕ) → Read
+read_as n (Some ns) = numbers (take n ns)
+read_as n None = unread
 
 -- the lines of bytes that go on with a line that has begun with others
 unfoldable pub lines_with : List ℕ → List ℕ → List (List ℕ)
@@ -32,9 +28,9 @@ pub record Begins (input : List ℕ) (from : ℕ) (c : definitions.Call) (end : 
   pub taken : end ≤ length input
   pub lines : (more : List ℕ) → lines_with [] (drop from input ++ more) ≡ line ∷ lines_with [] (drop end input ++ more)
 
-abbrev pub Leads : List ℕ → ℕ → Ahead → Type 0
-Leads input from (Whole c end) = Begins input from c end
-Leads input from Other = Unit {0}
+abbrev pub Leads : List ℕ → ℕ → Option (definitions.Call × ℕ) → Type 0
+Leads input from (Some (c, end)) = Begins input from c end
+Leads input from None = Unit {0}
 
 -- the bytes of a line put behind the len that are held, as many as fit; up to its end, which is passed
 unfoldable pub takes : List ℕ → ℕ → ℕ → List ℕ → List ℕ × Taken

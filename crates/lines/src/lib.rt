@@ -1,7 +1,7 @@
 // The script's lines, read, and the lines of the output, each written whole into a lent slice or not at all.
 #![tactic(auto)]
 
-ghost use Rattle.std.specs.Prelude.{◌≡◌, [], ◌∷◌, ◌+◌, ◌*◌, ◌<◌, ◌≤◌, length, take, drop, replicate};
+ghost use Rattle.std.specs.Prelude.{◌≡◌, [], ◌∷◌, ◌+◌, ◌*◌, ◌<◌, ◌≤◌, length, take, drop, replicate, MatchOption};
 ghost use Rattle.std.proofs.lemmas.List.Edits.{sets};
 ghost use Rattle.definitions.specs.Tests.{each};
 ghost use Rattle.definitions.specs.Script.{numbers, columns_of, arity, call_of, line_of, number_in, script_line, heading, answer_columns, answer_line, mapping_line};
@@ -9,17 +9,9 @@ ghost use Rattle.definitions.specs.Pages.{permission_group};
 ghost use Rattle.columns.specs.Columns.{Wrote};
 ghost use Rattle.lines.specs.Lines.{line_from, read_as, Leads, takes};
 
-use columns::{Column, Put};
 use definitions::{Answer, Call, GuestAddr, HostAddr, Mapping, MemoryPermission};
 
-// What a line says: a call, or none of the form, which is refusal 17.
-#[derive(Clone, Copy)]
-pub enum Line {
-    Call(Call),
-    Malformed,
-}
-
-// How far bytes are taken, how many of the line are held, and whether its end was met.
+// How far bytes are taken, how many of the line are held, and whether its end was met. The numbers count in both cases.
 #[derive(Clone, Copy)]
 pub struct Taken {
     pub used: usize,
@@ -28,130 +20,85 @@ pub struct Taken {
 }
 
 // How many numbers of 21 columns the letter's line has behind the compartment.
+#[tactic(auto, unfolding(definitions::specs::Script::arity))]
 fn arity_of(letter: u8) -> usize
     ensures { (result ≡ arity letter) × (result ≤ 4) }
 {
-    if letter == b'A' {
-        return 3;
+    match letter {
+        b'A' | b'D' => 3,
+        b'C' | b'U' | b'G' => 2,
+        b'M' => 4,
+        b'S' => 1,
+        _ => 0,
     }
-    if letter == b'D' {
-        return 3;
-    }
-    if letter == b'C' {
-        return 2;
-    }
-    if letter == b'M' {
-        return 4;
-    }
-    if letter == b'U' {
-        return 2;
-    }
-    if letter == b'G' {
-        return 2;
-    }
-    if letter == b'S' {
-        return 1;
-    }
-    0
 }
 
-// The n numbers of a line that is long enough for just these; false where one of them is not of the form.
-fn read_numbers(line: &[u8], n: usize, found: &mut [u64]) -> bool
-    requires { (n ≤ length found.old) × (length line.now ≡ 3 + 21 * n) }
-    ensures { columns_of (replicate n 21) (drop 3 line.now) ≡ read_as result (take n found.new) }
+// The n numbers of a line that is long enough for just these, and zeros behind them; none where one is not of the form.
+fn read_numbers(line: &[u8], n: usize) -> Option<[u64; 4]>
+    requires { (n ≤ 4) × (length line.now ≡ 3 + 21 * n) }
+    ensures says { columns_of (replicate n 21) (drop 3 line.now) ≡ read_as n result }
+    ensures four { MatchOption result (Unit {0}) (λ found. length found ≡ 4) }
 {
-    let mut i = 0;
-    while i < n {
+    let mut found = [0; 4];
+    for i in 0..n {
         let at = 3 + 21 * i;
-        let Column::Number(value) = columns::read(&line[at..at + 21]) else {
-            return false;
-        };
-        found[i] = value;
-        i += 1;
+        found[i] = columns::read(&line[at..at + 21])?;
     }
-    true
+    Some(found)
 }
 
 // The call that a letter makes of a compartment and of as many of the other numbers as it has.
-fn call_of(letter: u8, k: u64, a: u64, b: u64, c: u64, d: u64) -> Line
+#[tactic(auto, unfolding(definitions::specs::Script::arity, definitions::specs::Tests::host, definitions::specs::Tests::guest))]
+fn call_of(letter: u8, k: u64, a: u64, b: u64, c: u64, d: u64) -> Option<Call>
     ensures { result ≡ line_from (call_of letter (numbers (k ∷ take (arity letter) (a ∷ b ∷ c ∷ d ∷ [])))) }
 {
-    if letter == b'A' {
-        return Line::Call(Call::Add(k, HostAddr(a), HostAddr(b), c));
+    match letter {
+        b'A' => Some(Call::Add(k, HostAddr(a), HostAddr(b), c)),
+        b'D' => Some(Call::Remove(k, HostAddr(a), HostAddr(b), c)),
+        b'C' => Some(Call::Refcount(k, HostAddr(a), HostAddr(b))),
+        b'M' => Some(Call::Map(k, HostAddr(a), GuestAddr(b), c, d)),
+        b'U' => Some(Call::Unmap(k, HostAddr(a), b)),
+        b'G' => Some(Call::UnmapGpa(k, GuestAddr(a), b)),
+        b'P' => Some(Call::Mappings(k)),
+        b'S' => Some(Call::Allow(k, a)),
+        _ => None,
     }
-    if letter == b'D' {
-        return Line::Call(Call::Remove(k, HostAddr(a), HostAddr(b), c));
-    }
-    if letter == b'C' {
-        return Line::Call(Call::Refcount(k, HostAddr(a), HostAddr(b)));
-    }
-    if letter == b'M' {
-        return Line::Call(Call::Map(k, HostAddr(a), GuestAddr(b), c, d));
-    }
-    if letter == b'U' {
-        return Line::Call(Call::Unmap(k, HostAddr(a), b));
-    }
-    if letter == b'G' {
-        return Line::Call(Call::UnmapGpa(k, GuestAddr(a), b));
-    }
-    if letter == b'P' {
-        return Line::Call(Call::Mappings(k));
-    }
-    if letter == b'S' {
-        return Line::Call(Call::Allow(k, a));
-    }
-    Line::Malformed
 }
 
-// A line without its end: a letter, the compartment in 2 columns, and the letter's numbers in 21 columns each.
-pub fn parse_line(line: &[u8]) -> Line
+// A line without its end: a letter, the compartment in 2 columns, and the letter's numbers in 21 columns each. None that is
+// not of the form: refusal 17.
+pub fn parse_line(line: &[u8]) -> Option<Call>
     ensures { result ≡ line_from (line_of line.now) }
 {
-    if line.len() == 0 {
-        return Line::Malformed;
-    }
-    let letter = line[0];
-    let n = arity_of(letter);
-    if line.len() != 3 + 21 * n {
-        return Line::Malformed;
-    }
-    let Column::Number(k) = columns::read(&line[1..3]) else {
-        return Line::Malformed;
+    let [letter, ..] = line else {
+        return None;
     };
-    let mut found = [0u64; 4];
-    if !read_numbers(line, n, &mut found) {
-        return Line::Malformed;
+    let n = arity_of(*letter);
+    if line.len() != 3 + 21 * n {
+        return None;
     }
-    call_of(letter, k, found[0], found[1], found[2], found[3])
+    let k = columns::read(&line[1..3])?;
+    let [a, b, c, d] = read_numbers(line, n)?;
+    call_of(*letter, k, a, b, c, d)
 }
 
-// What comes next in an input: a call's line with its end, up to a place; or anything else.
-#[derive(Clone, Copy)]
-pub enum Ahead {
-    Whole(Call, usize),
-    Other,
-}
-
-// A call's line that lies in the input whole is read where it lies. Its letter says where its end has to be.
-pub fn line_ahead(input: &[u8], from: usize) -> Ahead
+// The call of a line that lies in the input whole, read where it lies, and the place behind its end; none where anything else
+// comes next. Its letter says where its end has to be.
+pub fn line_ahead(input: &[u8], from: usize) -> Option<(Call, usize)>
     requires { from < length input.now }
     ensures { Leads input.now from result }
 {
     let letter = input[from];
-    let n = arity_of(letter);
-    let size = 3 + 21 * n;
+    let size = 3 + 21 * arity_of(letter);
     if input.len() - from <= size {
-        return Ahead::Other;
+        return None;
     }
     let end = from + size;
     if input[end] != b'\n' {
-        return Ahead::Other;
+        return None;
     }
-    let said = parse_line(&input[from..end]);
-    let Line::Call(call) = said else {
-        return Ahead::Other;
-    };
-    Ahead::Whole(call, end + 1)
+    let call = parse_line(&input[from..end])?;
+    Some((call, end + 1))
 }
 
 // The bytes of a line go behind the len that are held of it, as many as line takes, up to the line's end, which is passed. No
@@ -160,13 +107,11 @@ pub fn take_line(line: &mut [u8], len: usize, input: &[u8], from: usize) -> Take
     ensures { (line.new, result) ≡ takes line.old len from (drop from input.now) }
 {
     let mut held = len;
-    let mut used = from;
-    while used < input.len() {
+    for used in from..input.len() {
         let b = input[used];
-        used += 1;
         if b == b'\n' {
             return Taken {
-                used,
+                used: used + 1,
                 len: held,
                 ended: true,
             };
@@ -177,7 +122,7 @@ pub fn take_line(line: &mut [u8], len: usize, input: &[u8], from: usize) -> Take
         }
     }
     Taken {
-        used,
+        used: from.max(input.len()),
         len: held,
         ended: false,
     }
@@ -198,15 +143,14 @@ const ALLOW_LEN: usize = 25;
 // The output's first line.
 pub const HEADING: [u8; 25] = *b"ans                value\n";
 
-// Bytes put over others, from a place on.
-fn copy(out: &mut [u8], at: usize, bytes: &[u8])
-    requires { at + length bytes.now ≤ length out.old }
-    ensures { out.new ≡ sets out.old at bytes.now }
+// Where so many bytes end that are put from a place on, if they fit.
+fn end_of(out: &[u8], at: usize, size: usize) -> Option<usize>
+    ensures { MatchOption result (length out.now < at + size) (λ end. (at + size ≤ length out.now) × (end ≡ at + size)) }
 {
-    let mut i = 0;
-    while i < bytes.len() {
-        out[at + i] = bytes[i];
-        i += 1;
+    if columns::has_room(out.len(), at, size) {
+        Some(at + size)
+    } else {
+        None
     }
 }
 
@@ -215,53 +159,45 @@ fn write_numbers(out: &mut [u8], at: usize, group: &[u64])
     requires { at + 21 * length group.now ≤ length out.old }
     ensures { out.new ≡ sets out.old at (each (number_in 21) group.now) }
 {
-    let mut i = 0;
-    while i < group.len() {
-        columns::write(out, at + 21 * i, 21, group[i]);
-        i += 1;
+    for (i, number) in group.iter().enumerate() {
+        columns::write(out, at + 21 * i, 21, *number);
     }
 }
 
 // The heading, from a place on.
-pub fn put_heading(out: &mut [u8], at: usize) -> Put
+pub fn put_heading(out: &mut [u8], at: usize) -> Option<usize>
     ensures { Wrote at heading out.old result out.new }
 {
-    if !columns::has_room(out.len(), at, HEADING_LEN) {
-        return Put::NoRoom;
-    }
-    copy(out, at, &HEADING);
-    Put::At(at + HEADING_LEN)
+    let end = end_of(out, at, HEADING_LEN)?;
+    out[at..end].copy_from_slice(&HEADING);
+    Some(end)
 }
 
 // A number in 3 columns and a value in 21, as an answer's line has them.
-pub fn put_columns(out: &mut [u8], at: usize, number: u64, value: u64) -> Put
+pub fn put_columns(out: &mut [u8], at: usize, number: u64, value: u64) -> Option<usize>
     ensures { Wrote at (answer_columns number value) out.old result out.new }
 {
-    if !columns::has_room(out.len(), at, ANSWER_LEN) {
-        return Put::NoRoom;
-    }
+    let end = end_of(out, at, ANSWER_LEN)?;
     columns::write(out, at, 3, number);
     columns::write(out, at + 3, 21, value);
     out[at + 24] = b'\n';
-    Put::At(at + ANSWER_LEN)
+    Some(end)
 }
 
 // The answer's number in 3 columns and its value in 21.
-pub fn put_answer(out: &mut [u8], at: usize, answer: Answer) -> Put
+pub fn put_answer(out: &mut [u8], at: usize, answer: Answer) -> Option<usize>
     ensures { Wrote at (answer_line answer) out.old result out.new }
 {
-    let number = answer.number();
-    let value = answer.value();
+    let number = definitions::number_of(answer);
+    let value = definitions::value_of(answer);
     put_columns(out, at, number, value)
 }
 
 // A mapping's five numbers in 21 columns each.
-pub fn put_mapping(out: &mut [u8], at: usize, mapping: Mapping) -> Put
+pub fn put_mapping(out: &mut [u8], at: usize, mapping: Mapping) -> Option<usize>
     ensures { Wrote at (mapping_line mapping) out.old result out.new }
 {
-    if !columns::has_room(out.len(), at, MAPPING_LEN) {
-        return Put::NoRoom;
-    }
+    let end = end_of(out, at, MAPPING_LEN)?;
     let group = [
         mapping.hpa.0,
         mapping.gpa.0,
@@ -271,7 +207,7 @@ pub fn put_mapping(out: &mut [u8], at: usize, mapping: Mapping) -> Put
     ];
     write_numbers(out, at, &group);
     out[at + 105] = b'\n';
-    Put::At(at + MAPPING_LEN)
+    Some(end)
 }
 
 // A script's line over as many bytes: its letter, the compartment in 2 columns, numbers in 21 columns each, and its end.
@@ -286,25 +222,26 @@ fn write_line(out: &mut [u8], at: usize, letter: u8, compartment: u64, numbers: 
 }
 
 // The script's line that adds a range to a compartment.
-pub fn put_add(out: &mut [u8], at: usize, compartment: u64, range: MemoryPermission) -> Put
+pub fn put_add(
+    out: &mut [u8],
+    at: usize,
+    compartment: u64,
+    range: MemoryPermission,
+) -> Option<usize>
     ensures { Wrote at (script_line 65 compartment (permission_group range)) out.old result out.new }
 {
-    if !columns::has_room(out.len(), at, ADD_LEN) {
-        return Put::NoRoom;
-    }
+    let end = end_of(out, at, ADD_LEN)?;
     let numbers = [range.start.0, range.end.0, range.ops.0];
     write_line(out, at, b'A', compartment, &numbers);
-    Put::At(at + ADD_LEN)
+    Some(end)
 }
 
 // The script's line that sets a compartment's allowance.
-pub fn put_allow(out: &mut [u8], at: usize, compartment: u64, allowance: u64) -> Put
+pub fn put_allow(out: &mut [u8], at: usize, compartment: u64, allowance: u64) -> Option<usize>
     ensures { Wrote at (script_line 83 compartment (allowance ∷ [])) out.old result out.new }
 {
-    if !columns::has_room(out.len(), at, ALLOW_LEN) {
-        return Put::NoRoom;
-    }
+    let end = end_of(out, at, ALLOW_LEN)?;
     let numbers = [allowance];
     write_line(out, at, b'S', compartment, &numbers);
-    Put::At(at + ALLOW_LEN)
+    Some(end)
 }

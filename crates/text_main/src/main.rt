@@ -2,10 +2,7 @@
 // output, put into a slice of dots that the last of them does not fit.
 #![tactic(auto)]
 
-ghost use Rattle.std.specs.Prelude.{◌+◌, ◌<◌, ◌≤◌, length};
-
-use definitions::{Answer, Call, GuestAddr, HostAddr, Mapping, MemOps, Refusal};
-use lines::Line;
+use definitions::{Call, GuestAddr, HostAddr, Mapping, MemOps, Refusal};
 use std::io;
 use std::io::Stdout;
 
@@ -21,102 +18,59 @@ fn number(out: Stdout, n: u64) {
     let _ = out.write_all(&text);
 }
 
-fn two(out: Stdout, a: u64, b: u64) {
-    number(out, a);
-    number(out, b)
+fn line(out: Stdout, byte: u8, k: u64, numbers: &[u64]) {
+    letter(out, byte, k);
+    for n in numbers {
+        number(out, *n);
+    }
 }
 
 fn show_call(out: Stdout, call: Call) {
     match call {
-        Call::Add(k, start, end, rights) => {
-            letter(out, b'A', k);
-            two(out, start.0, end.0);
-            number(out, rights)
-        }
-        Call::Remove(k, start, end, rights) => {
-            letter(out, b'D', k);
-            two(out, start.0, end.0);
-            number(out, rights)
-        }
-        Call::Refcount(k, start, end) => {
-            letter(out, b'C', k);
-            two(out, start.0, end.0)
-        }
-        Call::Map(k, hpa, gpa, size, repeat) => {
-            letter(out, b'M', k);
-            two(out, hpa.0, gpa.0);
-            two(out, size, repeat)
-        }
-        Call::Unmap(k, hpa, size) => {
-            letter(out, b'U', k);
-            two(out, hpa.0, size)
-        }
-        Call::UnmapGpa(k, gpa, size) => {
-            letter(out, b'G', k);
-            two(out, gpa.0, size)
-        }
-        Call::Mappings(k) => { letter(out, b'P', k) }
-        Call::Allow(k, allowance) => {
-            letter(out, b'S', k);
-            number(out, allowance)
-        }
+        Call::Add(k, start, end, rights) => line(out, b'A', k, &[start.0, end.0, rights]),
+        Call::Remove(k, start, end, rights) => line(out, b'D', k, &[start.0, end.0, rights]),
+        Call::Refcount(k, start, end) => line(out, b'C', k, &[start.0, end.0]),
+        Call::Map(k, hpa, gpa, size, repeat) => line(out, b'M', k, &[hpa.0, gpa.0, size, repeat]),
+        Call::Unmap(k, hpa, size) => line(out, b'U', k, &[hpa.0, size]),
+        Call::UnmapGpa(k, gpa, size) => line(out, b'G', k, &[gpa.0, size]),
+        Call::Mappings(k) => line(out, b'P', k, &[]),
+        Call::Allow(k, allowance) => line(out, b'S', k, &[allowance]),
         _ => {}
     }
 }
 
 fn show(out: Stdout, bytes: &[u8]) {
-    let line = lines::parse_line(bytes);
-    match line {
-        Line::Call(call) => {
-            show_call(out, call);
-        }
-        Line::Malformed => {
+    match lines::parse_line(bytes) {
+        Some(call) => show_call(out, call),
+        None => {
             let _ = out.write_all(b"malformed");
         }
     }
     let _ = out.write_all(b"\n");
 }
 
-// Where the present line begins, once the i-th byte is passed.
-fn pass(out: Stdout, text: &[u8], from: usize, i: usize) -> usize
-    requires { (from ≤ i) × (i < length text.now) }
-    ensures { result ≤ i + 1 }
-{
-    if text[i] != b'\n' {
-        return from;
-    }
-    show(out, &text[from..i]);
-    i + 1
-}
-
 // Each line, the last also where it lacks its end.
 fn show_lines(out: Stdout, text: &[u8]) {
-    let mut from = 0;
-    let mut i = 0;
-    while i < text.len() {
-        from = pass(out, text, from, i);
-        i += 1;
-    }
-    if from < text.len() {
-        show(out, &text[from..]);
+    for line in text.split_inclusive(|b| *b == b'\n') {
+        show(out, line.strip_suffix(b"\n").unwrap_or(line));
     }
 }
 
 fn show_written(out: Stdout) {
     let mapping = Mapping {
         hpa: HostAddr(10),
-        gpa: GuestAddr(18446744073709551615),
+        gpa: GuestAddr(u64::MAX),
         size: 20,
         repeat: 1,
         ops: MemOps(31),
     };
     let mut written = [b'.'; 182];
     lines::put_heading(&mut written, 0);
-    lines::put_answer(&mut written, 25, Answer::Refused(Refusal::OthersTouched));
+    lines::put_answer(&mut written, 25, Err(Refusal::OthersTouched));
     lines::put_mapping(&mut written, 50, mapping);
-    lines::put_answer(&mut written, 156, Answer::Accepted(70));
-    lines::put_answer(&mut written, 181, Answer::Accepted(71));
-    lines::put_heading(&mut written, 18446744073709551615);
+    lines::put_answer(&mut written, 156, Ok(70));
+    lines::put_answer(&mut written, 181, Ok(71));
+    lines::put_heading(&mut written, usize::MAX);
     let _ = out.write_all(&written);
     let _ = out.write_all(b"\n");
 }

@@ -5,4 +5,4 @@ use Rattle.lines.proofs.Whole.{begins}
 use Rattle.lines.proofs.line_ahead.Goals as goal
 
 pub returns : goal.returns
-returns c = begins c.args.input.now c.args.from (3 + 21 * c.arity_of-n.result) _ (omega arith) (omega arith) (sym c.in-Call.is ∙ c.parse_line-said.ensures)
+returns c = begins c.args.input.now c.args.from (3 + 21 * c.arity_of.result) _ (omega arith) (omega arith) (sym c.in_ok-call.was ∙ c.parse_line.ensures)

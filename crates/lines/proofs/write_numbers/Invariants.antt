@@ -1,4 +1,3 @@
-use Prim.Native.Nat.{◌-◌, ◌≤◌}
 use mathlib.Core.Path.{◌≡◌}
 use lib.ListN.{length, take}
 use lib.Seq.{sets}
@@ -7,7 +6,4 @@ use Rattle.definitions.specs.Script.{number_in}
 use Rattle.lines.proofs.write_numbers.Given as goal
 
 abbrev pub invariant-loop-i : goal.invariant-loop-i
-invariant-loop-i l = (l.i ≤ length l.group) × (length l.out ≡ length l.initial.out) × (l.out ≡ sets l.initial.out l.at (each (number_in 21) (take l.i l.group)))
-
-abbrev pub decreases-loop-i : goal.decreases-loop-i
-decreases-loop-i l = length l.group - l.i
+invariant-loop-i l = (length l.out ≡ length l.initial.out) × (l.out ≡ sets l.initial.out l.at (each (number_in 21) (take l.i l.group)))
