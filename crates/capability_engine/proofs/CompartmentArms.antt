@@ -3,19 +3,18 @@ use Prim.Native.Nat.{ℕ, ◌-◌}
 use mathlib.Core.Path.{◌≡◌, refl, sym, ap, ◌∙◌}
 use mathlib.Core.Bool.{true, true≢false}
 use mathlib.Core.List.{List}
-use lib.ListN.{get_or}
+use lib.ListN.{get_or, set}
 use Rattle.gen_arena.specs.declared.GenArena.{GenArena}
 use Rattle.definitions.specs.Regions.{refcount_of}
 use Rattle.definitions.specs.Reckoning.{compartment_of, with_segments, reckon}
 use Rattle.definitions.specs.Calls.{together, answer_in}
 use Rattle.definitions.specs.declared.addr.HostAddr.{HostAddr}
 use Rattle.definitions.specs.declared.addr.GuestAddr.{GuestAddr}
-use Rattle.definitions.specs.declared.answer.Answer.TheVariants.{Accepted}
+use Rattle.definitions.specs.Answers.{Answer}
+use Rattle.std.specs.Prelude.{Ok}
 use Rattle.definitions.specs.declared.call.Call.{Call}
 use Rattle.definitions.specs.declared.call.Call.TheVariants.{Add, Remove, Refcount, Overlaps, Map, Unmap, UnmapGpa, Permissions, Remap, Mappings, Allow}
 use Rattle.capability_engine.specs.declared.region.RegionTracker.{RegionTracker}
-use Rattle.capability_engine.specs.declared.region.Changed.{Changed as RegionChanged}
-use Rattle.capability_engine.specs.declared.region.Allowed.{Allowed}
 use Rattle.capability_engine.specs.declared.remapper.Remapper.{Remapper}
 use Rattle.capability_engine.specs.declared.remapper.Change.{Change}
 use Rattle.capability_engine.specs.PoolChain.{stored_at}
@@ -28,32 +27,32 @@ use Rattle.capability_engine.proofs.CompartmentLaws.{add-answers, remove-answers
 
 -- ---- on regions
 
-module _ (tracker : RegionTracker) (arena : GenArena) (words nx links gens ws' nx' links' gens' : List ℕ) (r : RegionChanged)
+module _ (tracker : RegionTracker) (arena : GenArena) (words nx links gens ws' nx' links' gens' : List ℕ) (tracker' : RegionTracker) (arena' : GenArena) (r : Answer)
     (call : Call) (k : ℕ) (a e : HostAddr) (rights : ℕ) where
-  pub on-add : call ≡ Add k a e rights → AddsRegion nx words (heap links gens arena) tracker a e rights nx' ws' links' gens' r
-      → OnRegions call tracker arena words nx links gens ws' nx' links' gens' r
+  pub on-add : call ≡ Add k a e rights → AddsRegion nx words (heap links gens arena) tracker a e rights nx' ws' (heap links' gens' arena') tracker' r
+      → OnRegions call tracker arena words nx links gens ws' nx' links' gens' tracker' arena' r
   unfolding compartment_of
   on-add ec ch =
       rw ec (λ t calls g o l ea et.
       (let es : (get_or t.list k no_tracker).head ≡ tracker.head = ap (λ (x : RegionTracker). x.head) et in
       let em : (get_or t.list k no_tracker).allowance ≡ tracker.allowance = ap (λ (x : RegionTracker). x.allowance) et in
-      add-answers words nx links gens t calls g k l no_tracker a e rights ch.0.bound nx' ws' links' gens' r.arena r.tracker r.answer (rw (ea, es, em) ch.0)
+      add-answers words nx links gens t calls g k l no_tracker a e rights ch.0.bound nx' ws' links' gens' arena' tracker' r (rw (ea, es, em) ch.0)
       (record { allowance = ch.1.allowance ∙ sym em; many = ch.1.many })))
 
-  pub on-remove : call ≡ Remove k a e rights → RemovesRegion nx words (heap links gens arena) tracker a e rights nx' ws' links' gens' r
-      → OnRegions call tracker arena words nx links gens ws' nx' links' gens' r
+  pub on-remove : call ≡ Remove k a e rights → RemovesRegion nx words (heap links gens arena) tracker a e rights nx' ws' (heap links' gens' arena') tracker' r
+      → OnRegions call tracker arena words nx links gens ws' nx' links' gens' tracker' arena' r
   unfolding compartment_of
   on-remove ec ch =
       rw ec (λ t calls g o l ea et.
       (let es : (get_or t.list k no_tracker).head ≡ tracker.head = ap (λ (x : RegionTracker). x.head) et in
       let em : (get_or t.list k no_tracker).allowance ≡ tracker.allowance = ap (λ (x : RegionTracker). x.allowance) et in
-      remove-answers words nx links gens t calls g k l no_tracker a e rights ch.0.bound nx' ws' links' gens' r.arena r.tracker r.answer (rw (ea, es, em) ch.0)
+      remove-answers words nx links gens t calls g k l no_tracker a e rights ch.0.bound nx' ws' links' gens' arena' tracker' r (rw (ea, es, em) ch.0)
       (record { allowance = ch.1.allowance ∙ sym em; many = ch.1.many })))
 
 -- the tracker goes back as it was
 pub on-refcount : (tracker : RegionTracker) (arena : GenArena) (words nx links gens : List ℕ) (call : Call) (k : ℕ) (a e : HostAddr) (n : ℕ)
     → call ≡ Refcount k a e → n ≡ refcount_of a e (stored_at nx words tracker.head)
-    → OnRegions call tracker arena words nx links gens words nx links gens (record { tracker = tracker; arena = arena; answer = Accepted n })
+    → OnRegions call tracker arena words nx links gens words nx links gens tracker arena (Ok n)
 unfolding compartment_of
 on-refcount tracker arena words nx links gens call k a e n ec en =
     rw ec (λ t calls g o l ea et.
@@ -61,9 +60,9 @@ on-refcount tracker arena words nx links gens call k a e n ec en =
     rw (sym ea, sym et) (count-answers words nx links gens t calls g k l no_tracker a e n (rw es en))))
 
 -- another allowance, by those of all eight
-pub on-allow : (trackers : List RegionTracker) (k n : ℕ) (d : RegionTracker) (u : Allowed) (all : ℕ) → all ≡ together (allowances_of trackers)
-    → AllowsOne (get_or trackers k d) (all - (get_or trackers k d).allowance) n u → OnAllow trackers k n u
-on-allow trackers k n d u all ea al = λ words nx links gens t calls g l et. allow-answers words nx links gens t calls g k l d n u (rw (et, sym ea) al)
+pub on-allow : (trackers : List RegionTracker) (k n : ℕ) (d u : RegionTracker) (r : Answer) (all : ℕ) → all ≡ together (allowances_of trackers)
+    → AllowsOne (get_or trackers k d) (all - (get_or trackers k d).allowance) n u r → OnAllow trackers k n (set trackers k u) r
+on-allow trackers k n d u r all ea al = λ words nx links gens t calls g l et. rw (sym et) (allow-answers words nx links gens t calls g k l d n u r (rw (et, sym ea) al))
 
 -- no other call is on regions
 pub not-regions : (call : Call) → ((k : ℕ) (a e : HostAddr) (n : ℕ) → call ≡ Add k a e n → ⊥) → ((k : ℕ) (a e : HostAddr) (n : ℕ) → call ≡ Remove k a e n → ⊥)

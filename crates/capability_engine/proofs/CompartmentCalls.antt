@@ -1,36 +1,27 @@
 -- A call that may change one compartment, of all eight.
 use Prim.Native.Nat.{ℕ, ◌<◌}
 use mathlib.Core.Path.{◌≡◌, refl, sym, ap, ◌∙◌}
-use mathlib.Core.Bool.{true, false, true≢false}
+use mathlib.Core.Bool.{true}
 use mathlib.Core.List.{List}
 use native.Mathlib.Omega.{arith}
 use lib.ListN.{length, get_or, set}
 use lib.Seq.{get_or-set_same, set-get_or}
 use Rattle.definitions.specs.Reckoning.{compartment_of, reckon}
 use Rattle.definitions.specs.Calls.{compartment, allowance, others, answer_in, after}
-use Rattle.definitions.specs.Questions.{accepted}
-use Rattle.definitions.proofs.SegmentLaws.{Good}
-use Rattle.definitions.specs.declared.answer.Refusal.{Refusal}
-use Rattle.definitions.specs.declared.answer.Answer.{Answer}
-use Rattle.definitions.specs.declared.answer.Answer.TheVariants.{Refused}
+use Rattle.definitions.specs.Answers.{Answer}
 use Rattle.definitions.specs.declared.remapper.Segment.{Segment}
 use Rattle.definitions.specs.declared.call.Call.{Call}
 use Rattle.definitions.specs.declared.call.Call.TheVariants.{Allow}
+use Rattle.gen_arena.specs.declared.GenArena.{GenArena}
 use Rattle.capability_engine.specs.declared.region.RegionTracker.{RegionTracker}
-use Rattle.capability_engine.specs.declared.region.Changed.{Changed as RegionChanged}
-use Rattle.capability_engine.specs.declared.region.Allowed.{Allowed}
 use Rattle.capability_engine.specs.declared.remapper.Remapper.{Remapper}
 use Rattle.capability_engine.specs.declared.remapper.Change.{Change}
-use Rattle.capability_engine.specs.declared.remapper.Change.TheVariants.{Keep, Put, Cut}
-use Rattle.capability_engine.specs.declared.remapper.Changed.{Changed as SegmentChanged}
-use Rattle.capability_engine.specs.declared.remapper.Span.{Span}
 use Rattle.capability_engine.specs.declared.compartments.Tables.{Tables}
 use Rattle.capability_engine.specs.CompartmentGrown.{trackers_of, Grown, Answers}
 use Rattle.capability_engine.specs.CompartmentSteps.{on_regions, on_segments, no_tracker, OnRegions, OnAllow, OnSegments, AsksSegments}
-use Rattle.capability_engine.specs.RemapHeld.{IsHeld, IsSound}
-use Rattle.capability_engine.specs.RemapAsking.{in_range}
-use Rattle.capability_engine.specs.RemapAnswers.{Does, Decides, Inserts, CutsOut}
-use Rattle.capability_engine.proofs.RemapCalls.{holding, as-put, as-cut, did-put, did-cut, did-keep}
+use Rattle.capability_engine.specs.RemapHeld.{IsSound}
+use Rattle.capability_engine.specs.RemapAnswers.{Does, Decides}
+use Rattle.capability_engine.proofs.RemapCalls.{holding}
 use Rattle.capability_engine.proofs.CompartmentLaws.{eight}
 use Rattle.capability_engine.proofs.CompartmentFacts.{sound, regions-grown, allow-grown, segments-answer, segments-kept, segments-grown}
 
@@ -40,49 +31,26 @@ get_d_any l k d e h = ap (λ x. get_or x k d) (sym (set-get_or l k e)) ∙ get_o
 
 -- what the first questions of a call on segments come to: it is answered, or a change asks the rest and does it
 module _ (call : Call) (remapper : Remapper) (r : Change) (asks : AsksSegments call remapper r) where
-  pub keeps : (x : Answer) → r ≡ Keep x → OnSegments call remapper (record { answer = x; remapper = remapper })
-  keeps x e = λ n m c h o. did-keep remapper _ _ r (asks n m c h o) x e
-
-  pub puts : (s : Segment) → r ≡ Put s → (u : SegmentChanged) → Inserts remapper s u → OnSegments call remapper u
-  puts s e u f = λ n m c h o. did-put remapper _ _ r (asks n m c h o) s e u f
-
-  pub cuts : (p : Span) → r ≡ Cut p → (u : SegmentChanged) → CutsOut remapper p u → OnSegments call remapper u
-  cuts p e u f = λ n m c h o. did-cut remapper _ _ r (asks n m c h o) p e u f
-
-  pub settles : (u : SegmentChanged) → ((a : Answer) (ss : List Segment) → Decides remapper a ss r → Does remapper a ss u) → OnSegments call remapper u
-  settles u did = λ n m c h o. did (answer_in n m c call) (reckon call c).segments (asks n m c h o)
+  pub settles : (out : Remapper) (u : Answer) → ((a : Answer) (ss : List Segment) → Decides remapper a ss r → Does remapper a ss out u) → OnSegments call remapper out u
+  settles out u did = λ n m c h o. did (answer_in n m c call) (reckon call c).segments (asks n m c h o)
 
   -- the change can be made
   module _ (o : on_segments call ≡ true) (h : IsSound remapper) where
     pub ready : (a : Answer) × (ss : List Segment) × Decides remapper a ss r
     ready = (answer_in 0 0 (holding h.0) call, (reckon call (holding h.0)).segments, asks 0 0 (holding h.0) h.1 o)
 
-    pub ready-put : (s : Segment) → r ≡ Put s → Good s × IsHeld remapper
-    ready-put s e = let w = as-put remapper _ _ r ready.2 s e in (w.good, (w.before, w.held))
-
-    pub ready-cut : (p : Span) → r ≡ Cut p → in_range p × IsSound remapper
-    ready-cut p e = ((as-cut remapper _ _ r ready.2 p e).range, h)
-
--- a refused call leaves the remapper that went in
-pub refused-same : (call : Call) (remapper : Remapper) (u : SegmentChanged) → OnSegments call remapper u → (w : Refusal) → u.answer ≡ Refused w
-    → OnSegments call remapper (record { answer = u.answer; remapper = remapper })
-refused-same call remapper u on w e = λ n m c h o.
-    (let d = on n m c h o in
-    let f : accepted (answer_in n m c call) ≡ false = ap accepted (sym d.answer ∙ e) in
-    record { answer = d.answer; after = λ k. absurd (true≢false (sym k ∙ f)); kept = λ k. refl })
-
 module _ (words nx links gens : List ℕ) (t : Tables) (calls : List Call) (g : Grown words nx links gens t calls)
     (call : Call) (k : ℕ) (ek : k ≡ compartment_of call) (lk : k < 8) where
-  pub regions-answers : (d : RegionTracker) (ws' nx' links' gens' : List ℕ) (r : RegionChanged) → on_regions call ≡ true
-      → OnRegions call (get_or t.trackers k d) t.arena words nx links gens ws' nx' links' gens' r
-      → Answers calls call words nx links gens t ws' nx' links' gens' (record { tables = record { arena = r.arena; trackers = set t.trackers k r.tracker; remappers = t.remappers }; answer = r.answer })
-  regions-answers d ws' nx' links' gens' r o on =
+  pub regions-answers : (d : RegionTracker) (ws' nx' links' gens' : List ℕ) (tracker' : RegionTracker) (arena' : GenArena) (r : Answer) → on_regions call ≡ true
+      → OnRegions call (get_or t.trackers k d) t.arena words nx links gens ws' nx' links' gens' tracker' arena' r
+      → Answers calls call words nx links gens t ws' nx' links' gens' (record { arena = arena'; trackers = set t.trackers k tracker'; remappers = t.remappers }) r
+  regions-answers d ws' nx' links' gens' tracker' arena' r o on =
       let e : get_or t.trackers (compartment_of call) no_tracker ≡ get_or t.trackers k d =
       rw (sym ek) (get_d_any t.trackers k no_tracker d (omega (arith, eight words nx links gens (trackers_of t) calls g.pooled))) in
       let p = on (trackers_of t) calls g.pooled o (rw (sym ek) lk) refl e in
       rw ek (record {
         answered = p.answered;
-        grown = regions-grown words nx links gens t calls g call ws' nx' links' gens' _ r.answer o p;
+        grown = regions-grown words nx links gens t calls g call ws' nx' links' gens' _ r o p;
         kept = λ f.
             (let s = p.kept f in
             record {
@@ -94,16 +62,16 @@ module _ (words nx links gens : List ℕ) (t : Tables) (calls : List Call) (g : 
             });
       })
 
-  pub segments-answers : (d : Remapper) (r : SegmentChanged) → on_segments call ≡ true → OnSegments call (get_or t.remappers k d) r
-      → Answers calls call words nx links gens t words nx links gens (record { tables = record { arena = t.arena; trackers = t.trackers; remappers = set t.remappers k r.remapper }; answer = r.answer })
-  segments-answers d r s on =
+  pub segments-answers : (d out : Remapper) (r : Answer) → on_segments call ≡ true → OnSegments call (get_or t.remappers k d) out r
+      → Answers calls call words nx links gens t words nx links gens (record { arena = t.arena; trackers = t.trackers; remappers = set t.remappers k out }) r
+  segments-answers d out r s on =
       let l : compartment_of call < 8 = rw (sym ek) lk in
       let does = rw ek at (on (others (after calls).allowances k) (allowance (after calls) k) (compartment (after calls) k) (sound words nx links gens t calls g k lk d) s) in
       rw ek (record {
-        answered = segments-answer words nx links gens t calls g call l s d r does;
-        grown = segments-grown words nx links gens t calls g call l s d r does;
+        answered = segments-answer words nx links gens t calls g call l s d out r does;
+        grown = segments-grown words nx links gens t calls g call l s d out r does;
         kept = λ f.
-            (let e = segments-kept words nx links gens t calls g call l s d r does f in
+            (let e = segments-kept words nx links gens t calls g call l s d out r does f in
             record {
               same_words = refl;
               same_next = refl;
@@ -114,13 +82,13 @@ module _ (words nx links gens : List ℕ) (t : Tables) (calls : List Call) (g : 
       })
 
 pub allows-answers : (words nx links gens : List ℕ) (t : Tables) (calls : List Call) (g : Grown words nx links gens t calls) (k n : ℕ) → k < 8
-    → (u : Allowed) → OnAllow t.trackers k n u
-    → Answers calls (Allow k n) words nx links gens t words nx links gens (record { tables = record { arena = t.arena; trackers = set t.trackers k u.tracker; remappers = t.remappers }; answer = u.answer })
-allows-answers words nx links gens t calls g k n l u on =
+    → (ts : List RegionTracker) (r : Answer) → OnAllow t.trackers k n ts r
+    → Answers calls (Allow k n) words nx links gens t words nx links gens (record { arena = t.arena; trackers = ts; remappers = t.remappers }) r
+allows-answers words nx links gens t calls g k n l ts r on =
     let p = on words nx links gens (trackers_of t) calls g.pooled l refl in
     record {
       answered = p.answered;
-      grown = allow-grown words nx links gens t calls g k n _ u.answer p;
+      grown = allow-grown words nx links gens t calls g k n _ r p;
       kept = λ f.
           (let s = p.kept f in
           record {

@@ -10,7 +10,7 @@ use Rattle.definitions.specs.Regions.{regions}
 use Rattle.definitions.specs.Reckoning.{Compartment, empty, compartment_of, with_values, with_segments, reckon}
 use Rattle.definitions.specs.Questions.{accepted}
 use Rattle.definitions.specs.Calls.{State, compartment, allowance, together, others, next, answer_in, answer, after}
-use Rattle.definitions.specs.declared.answer.Answer.{Answer}
+use Rattle.definitions.specs.Answers.{Answer}
 use Rattle.definitions.specs.declared.call.Call.{Call}
 use Rattle.definitions.specs.declared.call.Call.TheVariants.{Add, Remove, Refcount, Overlaps, Map, Unmap, UnmapGpa, Permissions, Remap, Mappings, Allow}
 use Rattle.definitions.specs.Independence.{allows}
@@ -24,7 +24,6 @@ use Rattle.capability_engine.specs.PoolChain.{stored_at}
 use Rattle.capability_engine.specs.PoolOwn.{heap}
 use Rattle.capability_engine.specs.RegionAsks.{Tracked, Allotted}
 use Rattle.capability_engine.specs.RemapHeld.{Holds, Sound}
-use Rattle.capability_engine.specs.declared.remapper.Changed.{Changed}
 use Rattle.capability_engine.specs.RemapAnswers.{Does}
 use Rattle.capability_engine.specs.RemapListing.{Copied}
 use Rattle.capability_engine.specs.StreamCursor.{Whole, Table}
@@ -158,18 +157,18 @@ module _ (words next links gens : List ℕ) (t : Tables) (calls : List Call) (g 
   pool-allowed = rw g.pooled.allowed (allowances-bound calls)
 
   -- the same of a call on segments
-  module _ (call : Call) (l : compartment_of call < 8) (s : on_segments call ≡ true) (d : Remapper) (r : Changed)
+  module _ (call : Call) (l : compartment_of call < 8) (s : on_segments call ≡ true) (d out : Remapper) (r : Answer)
       (does : Does (get_or t.remappers (compartment_of call) d) (answer_in (others (after calls).allowances (compartment_of call)) (allowance (after calls) (compartment_of call)) (compartment (after calls) (compartment_of call)) call)
-      (reckon call (compartment (after calls) (compartment_of call))).segments r) where
-    pub segments-answer : r.answer ≡ answer (after calls) call
-    segments-answer = answer-in (after calls) call l r.answer does.answer
+      (reckon call (compartment (after calls) (compartment_of call))).segments out r) where
+    pub segments-answer : r ≡ answer (after calls) call
+    segments-answer = answer-in (after calls) call l r does.answer
 
-    pub segments-kept : accepted r.answer ≡ false → set t.remappers (compartment_of call) r.remapper ≡ t.remappers
+    pub segments-kept : accepted r ≡ false → set t.remappers (compartment_of call) out ≡ t.remappers
     segments-kept f = ap (set t.remappers (compartment_of call)) (does.kept (ap accepted (sym does.answer) ∙ f)) ∙ set-get_or t.remappers (compartment_of call) d
 
-    pub segments-grown : Grown words next links gens (record { arena = t.arena; trackers = t.trackers; remappers = set t.remappers (compartment_of call) r.remapper }) (calls ++ (call ∷ []))
+    pub segments-grown : Grown words next links gens (record { arena = t.arena; trackers = t.trackers; remappers = set t.remappers (compartment_of call) out }) (calls ++ (call ∷ []))
     unfolding compartment
-    segments-grown = go (accepted r.answer) refl
+    segments-grown = go (accepted r) refl
       where
         more : List Call
         more = calls ++ (call ∷ [])
@@ -177,14 +176,14 @@ module _ (words next links gens : List ℕ) (t : Tables) (calls : List Call) (g 
         same : (after more).allowances ≡ (after calls).allowances
         same = rw (after-snoc calls call) (allowances-kept (after calls) call (not-allows call s))
 
-        go : (b : Bool) → accepted r.answer ≡ b → Grown words next links gens (record { arena = t.arena; trackers = t.trackers; remappers = set t.remappers (compartment_of call) r.remapper }) more
+        go : (b : Bool) → accepted r ≡ b → Grown words next links gens (record { arena = t.arena; trackers = t.trackers; remappers = set t.remappers (compartment_of call) out }) more
         go true f =
             let n : (after more).compartments ≡ set (after calls).compartments (compartment_of call) (reckon call (compartment (after calls) (compartment_of call))) =
             ap (λ (x : State). x.compartments) (after-snoc calls call) ∙ next-accepted (after calls) call (ap accepted (sym segments-answer) ∙ f) in
             record {
               pooled = repooled words next links gens (trackers_of t) calls g.pooled more (rw n (holds-set next words t.trackers (after calls).compartments (compartment_of call) _ g.pooled.holds
                   (omega (arith, eight words next links gens (trackers_of t) calls g.pooled)) (ap regions (keeps-values call _ s)))) same;
-              remapped = rw n (remapped-set t.remappers (after calls).compartments (compartment_of call) r.remapper _ g.remapped (does.after (ap accepted (sym does.answer) ∙ f)));
+              remapped = rw n (remapped-set t.remappers (after calls).compartments (compartment_of call) out _ g.remapped (does.after (ap accepted (sym does.answer) ∙ f)));
             }
         go false f =
             let n : after more ≡ after calls = after-snoc calls call ∙ next-refused (after calls) call (ap accepted (sym segments-answer) ∙ f) in

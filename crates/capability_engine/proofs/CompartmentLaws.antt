@@ -21,8 +21,8 @@ use Rattle.definitions.specs.declared.addr.HostAddr.{HostAddr}
 use Rattle.definitions.specs.declared.region.Values.{Values}
 use Rattle.definitions.specs.declared.region.Region.{Region}
 use Rattle.definitions.specs.declared.answer.Refusal.TheVariants.{NoCompartment, InvalidMemOps, InvalidRange, PoolExceeded, StillInUse}
-use Rattle.definitions.specs.declared.answer.Answer.{Answer}
-use Rattle.definitions.specs.declared.answer.Answer.TheVariants.{Accepted, Refused}
+use Rattle.definitions.specs.Answers.{Answer}
+use Rattle.std.specs.Prelude.{Ok, Err}
 use Rattle.definitions.specs.declared.call.Call.{Call}
 use Rattle.definitions.specs.declared.call.Call.TheVariants.{Add, Remove, Refcount, Allow}
 use Rattle.definitions.proofs.Bools.{in-empty}
@@ -38,7 +38,6 @@ use Rattle.definitions.proofs.Independence.{allowances-kept, compartments-kept}
 use Rattle.definitions.specs.Independence.{allows}
 use Rattle.definitions.proofs.Reckoned.{after-snoc, next-accepted, next-allowed, next-refused, next-read, length-after}
 use Rattle.capability_engine.specs.declared.region.RegionTracker.{RegionTracker}
-use Rattle.capability_engine.specs.declared.region.Allowed.{Allowed}
 use Rattle.capability_engine.specs.PoolWords.{region_at}
 use Rattle.capability_engine.specs.PoolChain.{Seg, cnt, slots, Listed, Walkable, stored_at}
 use Rattle.capability_engine.specs.PoolOwn.{Heap, heap, free_of, Own, mine_of}
@@ -112,9 +111,6 @@ module _ (ts : List RegionTracker) where
   abbrev Summed : ℕ → ℕ → Type 0
   Summed n i = n + together (drop i (allowances_of ts)) ≡ together (allowances_of ts)
 
-  pub sum-start : Summed 0 0
-  sum-start = omega arith
-
   module _ (eight : length ts ≡ 8) (n i : ℕ) (s : Summed n i) where
     sum-long : length (allowances_of ts) ≡ 8
     sum-long = length-map ts (λ (t : RegionTracker). t.allowance) ∙ eight
@@ -128,9 +124,6 @@ module _ (ts : List RegionTracker) where
 
       pub sum_more : Summed (n + (get_or ts i d).allowance) (i + 1)
       sum_more = omega (arith, sum-next)
-
-      pub sum_fits : together (allowances_of ts) ≤ 1024 → n + (get_or ts i d).allowance < 2 ^ 64
-      sum_fits m = omega (arith, sum_more)
 
     pub sum-end : 8 ≤ i → n ≡ together (allowances_of ts)
     unfolding together
@@ -265,7 +258,7 @@ pub passed-one : (k : ℕ) → k < 8 → (x y : Answer) → x ≡ y → x ≡ as
 unfolding ask
 passed-one k l x y e = e ∙ sym (rw (lt-ltb k 8 l))
 
-pub failed-one : (k : ℕ) → 8 ≤ k → (y : Answer) → Refused NoCompartment ≡ ask ((k <? 8, NoCompartment) ∷ []) y
+pub failed-one : (k : ℕ) → 8 ≤ k → (y : Answer) → Err NoCompartment ≡ ask ((k <? 8, NoCompartment) ∷ []) y
 unfolding ask
 failed-one k l y = rw (le-ltb k 8 l)
 
@@ -464,11 +457,11 @@ module _ (words nx links gens : List ℕ) (t : Trackers) (calls : List Call) (g 
 
   -- a reading: the tracker goes back as it was
   module _ (a e : HostAddr) (n : ℕ) (en : n ≡ refcount_of a e (stored_at nx words first)) where
-    count-answer : Accepted n ≡ answer (after calls) (Refcount k a e)
+    count-answer : Ok n ≡ answer (after calls) (Refcount k a e)
     unfolding compartment_of answer_in on_refcount
-    count-answer = answer-in (after calls) (Refcount k a e) lk (Accepted n) (ap Accepted (en ∙ ap (refcount_of a e) here.shown))
+    count-answer = answer-in (after calls) (Refcount k a e) lk (Ok n) (ap Ok (en ∙ ap (refcount_of a e) here.shown))
 
-    pub count-answers : PoolAnswers calls (Refcount k a e) words nx links gens t words nx links gens (record { arena = t.arena; list = set t.list k (get_or t.list k d) }) (Accepted n)
+    pub count-answers : PoolAnswers calls (Refcount k a e) words nx links gens t words nx links gens (record { arena = t.arena; list = set t.list k (get_or t.list k d) }) (Ok n)
     unfolding reckon allowed
     count-answers =
         let same = untouched nx words links gens t.arena (get_or t.list k d) (record { allowance = refl; many = grown-allotted.many }) (record { next = refl; words = refl; heap = refl; first = refl }) in
@@ -480,7 +473,7 @@ module _ (words nx links gens : List ℕ) (t : Trackers) (calls : List Call) (g 
         }
 
   -- another allowance: the lists stay
-  module _ (n : ℕ) (u : Allowed) (al : AllowsOne (get_or t.list k d) (together (allowances_of t.list) - (get_or t.list k d).allowance) n u) where
+  module _ (n : ℕ) (u : RegionTracker) (r : Answer) (al : AllowsOne (get_or t.list k d) (together (allowances_of t.list) - (get_or t.list k d).allowance) n u r) where
     others-is : together (allowances_of t.list) - (get_or t.list k d).allowance ≡ others (after calls).allowances k
     others-is =
         let m : k < length (allowances_of t.list) = omega (arith, long, length-map t.list (λ (x : RegionTracker). x.allowance)) in
@@ -488,11 +481,11 @@ module _ (words nx links gens : List ℕ) (t : Trackers) (calls : List Call) (g 
         let q : together (allowances_of t.list) - (get_or t.list k d).allowance ≡ others (allowances_of t.list) k = omega (arith, allowance-at t.list k d long) in
         q ∙ ap (λ (ms : List ℕ). others ms k) g.allowed
 
-    allow-told : u.answer ≡ answer (after calls) (Allow k n)
+    allow-told : r ≡ answer (after calls) (Allow k n)
     unfolding compartment_of answer_in on_allow
     allow-told =
-        answer-in (after calls) (Allow k n) lk u.answer
-        (al.answer ∙ ap₂ (λ (x y : ℕ). ask ((x + n ≤? 1024, PoolExceeded) ∷ (y ≤? n, StillInUse) ∷ []) (Accepted 0)) others-is here.many)
+        answer-in (after calls) (Allow k n) lk r
+        (al.answer ∙ ap₂ (λ (x y : ℕ). ask ((x + n ≤? 1024, PoolExceeded) ∷ (y ≤? n, StillInUse) ∷ []) (Ok 0)) others-is here.many)
 
     more : List Call
     more = calls ++ (Allow k n ∷ [])
@@ -501,18 +494,18 @@ module _ (words nx links gens : List ℕ) (t : Trackers) (calls : List Call) (g 
     unfolding more allows
     same_lists = rw (after-snoc calls (Allow k n)) (compartments-kept (after calls) (Allow k n) refl)
 
-    allow-kept : accepted u.answer ≡ false → SamePool words nx links gens t words nx links gens (record { arena = t.arena; list = set t.list k u.tracker })
+    allow-kept : accepted r ≡ false → SamePool words nx links gens t words nx links gens (record { arena = t.arena; list = set t.list k u })
     allow-kept f =
-        let l : set t.list k u.tracker ≡ t.list = ap (set t.list k) (al.kept f) ∙ set-get_or t.list k d in
+        let l : set t.list k u ≡ t.list = ap (set t.list k) (al.kept f) ∙ set-get_or t.list k d in
         record { same_words = refl; same_next = refl; same_links = refl; same_gens = refl; same_trackers = λ i. record { arena = t.arena; list = l i } }
 
-    allow-goes : (b : Bool) → accepted u.answer ≡ b → Pooled words nx links gens (record { arena = t.arena; list = set t.list k u.tracker }) more
+    allow-goes : (b : Bool) → accepted r ≡ b → Pooled words nx links gens (record { arena = t.arena; list = set t.list k u }) more
     unfolding more compartment_of allowed
     allow-goes false f =
         let s : after more ≡ after calls = after-snoc calls (Allow k n) ∙ next-refused (after calls) (Allow k n) (ap accepted (sym allow-told) ∙ f) in
         rw (allow-kept f).same_trackers (repooled words nx links gens t calls g more (rw s g.holds) (rw s))
     allow-goes true f =
-        let e : u.tracker ≡ record { head = first; count = (get_or t.list k d).count; allowance = n } = al.done f in
+        let e : u ≡ record { head = first; count = (get_or t.list k d).count; allowance = n } = al.done f in
         let ma : (after more).allowances ≡ set (after calls).allowances k n =
         ap (λ (s : State). s.allowances) (after-snoc calls (Allow k n)) ∙ next-allowed (after calls) (Allow k n) (ap accepted (sym allow-told) ∙ f) in
         record {
@@ -525,6 +518,6 @@ module _ (words nx links gens : List ℕ) (t : Trackers) (calls : List Call) (g 
           total = rw e (omega (arith, g.total, long-allowed nx t.list k d n long));
         }
 
-    pub allow-answers : PoolAnswers calls (Allow k n) words nx links gens t words nx links gens (record { arena = t.arena; list = set t.list k u.tracker }) u.answer
+    pub allow-answers : PoolAnswers calls (Allow k n) words nx links gens t words nx links gens (record { arena = t.arena; list = set t.list k u }) r
     unfolding more
-    allow-answers = record { answered = allow-told; pooled = allow-goes (accepted u.answer) refl; kept = allow-kept }
+    allow-answers = record { answered = allow-told; pooled = allow-goes (accepted r) refl; kept = allow-kept }

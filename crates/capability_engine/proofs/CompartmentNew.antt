@@ -1,30 +1,28 @@
 -- Eight empty compartments over a pool whose slots are all free.
+use Rattle.std.specs.Prelude.{Option, Some, None}
 use Prim.Native.Nat.{ℕ, zero, suc, ◌+◌, ◌≤◌, ◌<◌}
 use mathlib.Core.Path.{◌≡◌, subst, ◌≡◌, refl, sym, ap, ap₂, ◌∙◌}
-use mathlib.Core.Bool.{Bool, true, false, true≢false}
+use mathlib.Core.Bool.{Bool, true, false}
 use mathlib.Core.List.{List, [], ◌∷◌}
 use native.Mathlib.Omega.{arith}
 use native.Mathlib.Decide.{ℕ_discrete}
 use lib.ListN.{length, replicate}
 use lib.Dec.{eqb}
-use borrow.Author.Tests.{eqb-true, eqb-false}
+use borrow.Author.Tests.{eqb-true}
 use Rattle.free_list.specs.Stack.{up_from}
 use Rattle.gen_arena.specs.Grown.{GrownArena, Creates as CreatesArena, created_if, fresh}
 use Rattle.gen_arena.specs.declared.GenArena.{GenArena}
-use Rattle.gen_arena.specs.declared.Created.{Created as NewArena}
-use Rattle.gen_arena.specs.declared.Created.TheVariants.{Arena, Uneven}
 use Rattle.definitions.specs.Reckoning.{empty}
 use Rattle.definitions.specs.Calls.{start, after_from, after}
 use Rattle.definitions.proofs.Tables.{no_table}
 use Rattle.definitions.proofs.TableLaws.{shown-empty}
 use Rattle.capability_engine.specs.declared.region.RegionTracker.{RegionTracker}
 use Rattle.capability_engine.specs.declared.remapper.Remapper.{Remapper}
-use Rattle.capability_engine.specs.declared.compartments.Tables.{Tables}
 use Rattle.capability_engine.specs.PoolWords.{pool_len}
 use Rattle.capability_engine.specs.PoolChain.{cnt, slots, records}
 use Rattle.capability_engine.specs.PoolOwn.{heap, free_of}
 use Rattle.capability_engine.specs.RemapHeld as remap
-use Rattle.capability_engine.specs.CompartmentGrown.{Holding, Holds, in_lists, all_long, allowances_of, Trackers, trackers_of, Pooled, Remapped, Sized, Creates, no_trackers}
+use Rattle.capability_engine.specs.CompartmentGrown.{Holding, Holds, in_lists, all_long, allowances_of, Trackers, Pooled, Remapped, Made, Creates, no_trackers}
 use Rattle.capability_engine.proofs.PoolLinks.{slots-are, bit-same, bit-other}
 use Rattle.capability_engine.proofs.PoolHeaps.{free-is}
 
@@ -122,43 +120,25 @@ bare-grown : (m : Remapper) → remap.Holds m [] → Remapped (replicate 8 m) (a
 unfolding after after_from
 bare-grown m h = bare-remappers m h
 
--- refused: the slices are as they were
-pub not_made : (words nx links gens : List ℕ) (t : Tables) → trackers_of t ≡ no_trackers → Remapped t.remappers start.compartments → (Sized words nx links gens → ⊥)
-    → Creates words nx links gens links gens (record { tables = t; done = false })
-not_made words nx links gens t e b n =
-    record { empty = e; bare = b; made = λ h. absurd (true≢false (sym h)); sized = λ s. absurd (n s); kept = λ _. (refl, refl) }
-
-module _ (words nx links gens links' gens' : List ℕ) (r : NewArena) (c : CreatesArena links links' gens gens' r) (ll : length links ≡ 1024) where
-  pub made-new : length words ≡ pool_len → length nx ≡ 1025 → (z : RegionTracker) → (z.head ≡ 1024) × (z.count ≡ 0) × (z.allowance ≡ 128) → (m : Remapper) → remap.Holds m [] → (arena : GenArena) → r ≡ Arena arena
-      → Creates words nx links gens links' gens' (record { tables = record { arena = arena; trackers = replicate 8 z; remappers = replicate 8 m }; done = true })
+module _ (words nx links gens links' gens' : List ℕ) (r : Option GenArena) (c : CreatesArena links links' gens gens' r) (ll : length links ≡ 1024) where
+  pub made-new : length words ≡ pool_len → length nx ≡ 1025 → (z : RegionTracker) → (z.head ≡ 1024) × (z.count ≡ 0) × (z.allowance ≡ 128) → (m : Remapper) → remap.Holds m [] → (arena : GenArena) → r ≡ Some arena
+      → Creates words nx links gens links' gens' (Some (record { arena = arena; trackers = replicate 8 z; remappers = replicate 8 m }))
   made-new lw ln z ez m hm arena e = go (eqb (length links) (length gens)) refl
     where
-      go : (b : Bool) → eqb (length links) (length gens) ≡ b → Creates words nx links gens links' gens' (record { tables = record { arena = arena; trackers = replicate 8 z; remappers = replicate 8 m }; done = true })
-      go false d = absurd (let w : Arena arena ≡ Uneven = sym e ∙ c.answer ∙ ap created_if d in let y : ◌≡◌ {A = ℕ} 0 1 = cc in omega arith)
+      go : (b : Bool) → eqb (length links) (length gens) ≡ b → Creates words nx links gens links' gens' (Some (record { arena = arena; trackers = replicate 8 z; remappers = replicate 8 m }))
+      go false d = absurd (let w : ◌≡◌ {A = Option GenArena} (Some arena) None = sym e ∙ c.answer ∙ ap created_if d in let y : ◌≡◌ {A = ℕ} 0 1 = cc in omega arith)
       go true d =
-          let w : Arena arena ≡ Arena fresh = sym e ∙ c.answer ∙ ap created_if d in
+          let w : ◌≡◌ {A = Option GenArena} (Some arena) (Some fresh) = sym e ∙ c.answer ∙ ap created_if d in
           let ea : arena ≡ fresh = cc in
           let g : GrownArena 1024 links' gens' fresh [] = rw ll at (c.grown (eqb-true (length links) (length gens) d)) in
           record {
-            empty = rw ea (empty-trackers z ez);
-            bare = bare-remappers m hm;
-            made = λ _. record { pooled = pooled-new nx words ln z ez links' gens' arena (rw ea g) lw; remapped = bare-grown m hm };
+            made = λ t q.
+                (let same : record { arena = arena; trackers = replicate 8 z; remappers = replicate 8 m } ≡ t = cc in
+                subst (Made words nx links' gens') same (record {
+                  empty = rw ea (empty-trackers z ez);
+                  bare = bare-remappers m hm;
+                  grown = record { pooled = pooled-new nx words ln z ez links' gens' arena (rw ea g) lw; remapped = bare-grown m hm };
+                }));
             sized = λ _. refl;
-            kept = λ h. absurd (true≢false h);
-          }
-
-  pub not-even : (t : Tables) → trackers_of t ≡ no_trackers → Remapped t.remappers start.compartments → r ≡ Uneven → Creates words nx links gens links' gens' (record { tables = t; done = false })
-  not-even t et b e = go (eqb (length links) (length gens)) refl
-    where
-      go : (b : Bool) → eqb (length links) (length gens) ≡ b → Creates words nx links gens links' gens' (record { tables = t; done = false })
-      go true d = absurd (let w : Uneven ≡ Arena fresh = sym e ∙ c.answer ∙ ap created_if d in let y : ◌≡◌ {A = ℕ} 0 1 = cc in omega arith)
-      go false d =
-          let n : length links ≡ length gens → ⊥ = eqb-false (length links) (length gens) d in
-          let k = c.kept n in
-          record {
-            empty = et;
-            bare = b;
-            made = λ h. absurd (true≢false (sym h));
-            sized = λ s. absurd (n (ll ∙ sym s.3));
-            kept = λ _. (k.same_links, k.same_gens);
+            kept = λ h. absurd (cc);
           }

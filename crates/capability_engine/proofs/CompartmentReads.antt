@@ -14,9 +14,10 @@ use Rattle.definitions.specs.declared.addr.HostAddr.{HostAddr}
 use Rattle.definitions.specs.declared.addr.GuestAddr.{GuestAddr}
 use Rattle.definitions.specs.declared.region.Region.{Region}
 use Rattle.definitions.specs.declared.remapper.Segment.{Segment}
+use Rattle.definitions.specs.declared.answer.Refusal.{Refusal}
 use Rattle.definitions.specs.declared.answer.Refusal.TheVariants.{NoCompartment}
-use Rattle.definitions.specs.declared.answer.Answer.{Answer}
-use Rattle.definitions.specs.declared.answer.Answer.TheVariants.{Accepted, Refused}
+use Rattle.definitions.specs.Answers.{Answer}
+use Rattle.std.specs.Prelude.{Ok, Err, IsErrAnd}
 use Rattle.definitions.specs.declared.call.Call.{Call}
 use Rattle.definitions.specs.declared.call.Call.TheVariants.{Refcount, Overlaps, Permissions, Remap}
 use Rattle.definitions.proofs.Reckoned.{after-snoc, next-refused, next-read}
@@ -25,6 +26,11 @@ use Rattle.capability_engine.specs.declared.compartments.Tables.{Tables}
 use Rattle.capability_engine.specs.PoolChain.{stored_at}
 use Rattle.capability_engine.specs.CompartmentGrown.{trackers_of, Grown, Answers, Reads, page_left, ReadsPage, ReadsList}
 use Rattle.capability_engine.proofs.CompartmentLaws.{passed-one, failed-one, answer-in, repooled, here}
+
+-- what `?` hands on of a compartment that there is not
+pub handed : (r : Answer) (e : Refusal) → IsErrAnd r (λ y. y ≡ e) → e ≡ NoCompartment → r ≡ Err NoCompartment
+handed (Ok x) e h q = absurd h
+handed (Err y) e h q = ap Err (h ∙ q)
 
 -- ---- pages
 
@@ -39,11 +45,11 @@ module _ (w : ℕ) (gs : List (List ℕ)) (k from : ℕ) (out : List ℕ) where
 
 -- of a stored list
 module _ (w : ℕ) (groups : Compartment → List (List ℕ)) (calls : List Call) (k from : ℕ) (out : List ℕ) where
-  pub past-list : 8 ≤ k → ReadsList w groups calls k from out out (Refused NoCompartment)
+  pub past-list : 8 ≤ k → ReadsList w groups calls k from out out (Err NoCompartment)
   past-list l = record { answered = failed-one k l _; slice = no-page w _ k from out l }
 
-  reads-list : (out' : List ℕ) (n : ℕ) → k < 8 → Filled w (groups (compartment (after calls) k)) from out out' n → ReadsList w groups calls k from out out' (Accepted n)
-  reads-list out' n l f = record { answered = passed-one k l (Accepted n) _ (ap Accepted f.many); slice = page-left w _ k from out out' n l f }
+  reads-list : (out' : List ℕ) (n : ℕ) → k < 8 → Filled w (groups (compartment (after calls) k)) from out out' n → ReadsList w groups calls k from out out' (Ok n)
+  reads-list out' n l f = record { answered = passed-one k l (Ok n) _ (ap Ok f.many); slice = page-left w _ k from out out' n l f }
 
 module _ (words nx links gens : List ℕ) (t : Tables) (calls : List Call) (g : Grown words nx links gens t calls) where
   grown-as : (more : List Call) → after more ≡ after calls → Grown words nx links gens t more
@@ -56,13 +62,13 @@ module _ (words nx links gens : List ℕ) (t : Tables) (calls : List Call) (g : 
   -- ---- any call
 
   module _ (call : Call) where
-    pub past : 8 ≤ compartment_of call → Reads calls call words nx links gens t (Refused NoCompartment)
+    pub past : 8 ≤ compartment_of call → Reads calls call words nx links gens t (Err NoCompartment)
     unfolding answer
     past l =
-        let e : Refused NoCompartment ≡ answer (after calls) call = failed-one (compartment_of call) l _ in
+        let e : Err NoCompartment ≡ answer (after calls) call = failed-one (compartment_of call) l _ in
         record { answered = e; grown = grown-as (calls ++ (call ∷ [])) (after-snoc calls call ∙ next-refused (after calls) call (ap accepted (sym e))) }
 
-    pub past-answers : 8 ≤ compartment_of call → Answers calls call words nx links gens t words nx links gens (record { tables = t; answer = Refused NoCompartment })
+    pub past-answers : 8 ≤ compartment_of call → Answers calls call words nx links gens t words nx links gens t (Err NoCompartment)
     past-answers l =
         record {
           answered = (past l).answered;
@@ -71,7 +77,7 @@ module _ (words nx links gens : List ℕ) (t : Tables) (calls : List Call) (g : 
         }
 
     pub past-page : (w : ℕ) (groups : Compartment → List (List ℕ)) (from : ℕ) (out : List ℕ) → 8 ≤ compartment_of call
-        → ReadsPage w groups from calls call words nx links gens t out out (Refused NoCompartment)
+        → ReadsPage w groups from calls call words nx links gens t out out (Err NoCompartment)
     past-page w groups from out l = record { reads = past l; slice = no-page w _ (compartment_of call) from out l }
 
     module _ (l : compartment_of call < 8) (same : (c : Compartment) → reckon call c ≡ c) (leaves : (m : ℕ) → allowed call m ≡ m) where
@@ -81,10 +87,10 @@ module _ (words nx links gens : List ℕ) (t : Tables) (calls : List Call) (g : 
 
       reads-page : (w : ℕ) (groups : Compartment → List (List ℕ)) (from : ℕ) (out out' : List ℕ) (n : ℕ)
           → Filled w (groups (compartment (after calls) (compartment_of call))) from out out' n
-          → answer_in (others (after calls).allowances (compartment_of call)) (allowance (after calls) (compartment_of call)) (compartment (after calls) (compartment_of call)) call ≡ Accepted (length (page w (groups (compartment (after calls) (compartment_of call))) from (length out)))
-          → ReadsPage w groups from calls call words nx links gens t out out' (Accepted n)
+          → answer_in (others (after calls).allowances (compartment_of call)) (allowance (after calls) (compartment_of call)) (compartment (after calls) (compartment_of call)) call ≡ Ok (length (page w (groups (compartment (after calls) (compartment_of call))) from (length out)))
+          → ReadsPage w groups from calls call words nx links gens t out out' (Ok n)
       reads-page w groups from out out' n f e =
-          record { reads = reads (Accepted n) (ap Accepted f.many ∙ sym e); slice = page-left w _ (compartment_of call) from out out' n l f }
+          record { reads = reads (Ok n) (ap Ok f.many ∙ sym e); slice = page-left w _ (compartment_of call) from out out' n l f }
 
   -- ---- each kind of call
 
@@ -100,26 +106,26 @@ module _ (words nx links gens : List ℕ) (t : Tables) (calls : List Call) (g : 
       stored-are : stored ≡ regions (compartment (after calls) k).values
       stored-are = (here words nx links gens (trackers_of t) calls g.pooled k lk d).shown
 
-      pub counted : (a e : HostAddr) (n : ℕ) → n ≡ refcount_of a e stored → Reads calls (Refcount k a e) words nx links gens t (Accepted n)
+      pub counted : (a e : HostAddr) (n : ℕ) → n ≡ refcount_of a e stored → Reads calls (Refcount k a e) words nx links gens t (Ok n)
       unfolding compartment_of reckon allowed answer_in on_refcount
-      counted a e n en = reads (Refcount k a e) lk (λ c. refl) (λ m. refl) (Accepted n) (ap Accepted (en ∙ ap (refcount_of a e) stored-are))
+      counted a e n en = reads (Refcount k a e) lk (λ c. refl) (λ m. refl) (Ok n) (ap Ok (en ∙ ap (refcount_of a e) stored-are))
 
       pub permitted : (from : ℕ) (out out' : List ℕ) (n : ℕ) → Filled 3 (map (λ q. permission_group (permission_of q)) stored) from out out' n
-          → ReadsPage 3 permission_groups from calls (Permissions k from (length out)) words nx links gens t out out' (Accepted n)
+          → ReadsPage 3 permission_groups from calls (Permissions k from (length out)) words nx links gens t out out' (Ok n)
       unfolding compartment_of reckon allowed answer_in permission_groups
       permitted from out out' n f = reads-page (Permissions k from (length out)) lk (λ c. refl) (λ m. refl) 3 permission_groups from out out' n (rw stored-are at f) refl
 
       pub streamed : (ss : List Segment) → ss ≡ (compartment (after calls) k).segments → (from : ℕ) (out out' : List ℕ) (n : ℕ)
           → Filled 5 (map mapping_group (stream stored ss)) from out out' n
-          → ReadsPage 5 stream_groups from calls (Remap k from (length out)) words nx links gens t out out' (Accepted n)
+          → ReadsPage 5 stream_groups from calls (Remap k from (length out)) words nx links gens t out out' (Ok n)
       unfolding compartment_of reckon allowed answer_in stream_groups stream_of
       streamed ss es from out out' n f = reads-page (Remap k from (length out)) lk (λ c. refl) (λ m. refl) 5 stream_groups from out out' n (rw (stored-are, es) at f) refl
 
-      pub regions-listed : (from : ℕ) (out out' : List ℕ) (n : ℕ) → Filled record_len (map region_group stored) from out out' n → ReadsList record_len region_groups calls k from out out' (Accepted n)
+      pub regions-listed : (from : ℕ) (out out' : List ℕ) (n : ℕ) → Filled record_len (map region_group stored) from out out' n → ReadsList record_len region_groups calls k from out out' (Ok n)
       unfolding region_groups
       regions-listed from out out' n f = reads-list record_len region_groups calls k from out out' n lk (rw stored-are at f)
 
     pub segments-listed : (ss : List Segment) → ss ≡ (compartment (after calls) k).segments → (from : ℕ) (out out' : List ℕ) (n : ℕ)
-        → Filled 4 (map segment_group ss) from out out' n → ReadsList 4 segment_groups calls k from out out' (Accepted n)
+        → Filled 4 (map segment_group ss) from out out' n → ReadsList 4 segment_groups calls k from out out' (Ok n)
     unfolding segment_groups
     segments-listed ss es from out out' n f = reads-list 4 segment_groups calls k from out out' n lk (rw es at f)

@@ -24,7 +24,6 @@ pub mod StreamLinks
 pub mod StreamMoves
 pub mod StreamTurns
 pub mod StreamStarts
-pub mod StreamLeaves
 pub mod StreamWalks
 pub mod StreamCosts
 pub mod RemapLaws

@@ -15,9 +15,7 @@ use Rattle.gen_arena.specs.Arena.{ArenaCall, allocate, free, list_call, after, m
 use Rattle.gen_arena.specs.Grown.{GrownArena, IsArena, AllocatesHandle, FreesHandle}
 use Rattle.gen_arena.specs.declared.GenArena.{GenArena}
 use Rattle.gen_arena.specs.declared.Handle.{Handle}
-use Rattle.gen_arena.specs.declared.NewHandle.TheVariants.{Made, Full}
-use Rattle.gen_arena.specs.declared.Allocated.{Allocated}
-use Rattle.gen_arena.specs.declared.Freed.{Freed}
+use Rattle.std.specs.Prelude.{Option, Some, None}
 use Rattle.gen_arena.proofs.Laws.{after-snoc, slots-after}
 use Rattle.definitions.specs.Tests.{bit}
 use Rattle.capability_engine.specs.PoolChain.{Seg, cnt, slots}
@@ -97,28 +95,28 @@ heap-arena links gens arena h = record { n = 1024; calls = h.calls; grown = h.gr
 
 -- ---- a slot is taken
 
-made-first : (gens s : List ℕ) (h : Handle) → Made h ≡ made_of gens (first_of s) → (t : List ℕ) × (s ≡ h.idx ∷ t)
+made-first : (gens s : List ℕ) (h : Handle) → Some h ≡ made_of gens (first_of s) → (t : List ℕ) × (s ≡ h.idx ∷ t)
 made-first gens [] h e = absurd (let z : ◌≡◌ {A = ℕ} 0 1 = cc in omega arith)
 made-first gens (x ∷ s) h e = let w : h ≡ record { idx = x; generation = get_or gens x 0 } = cc in (s, rw w refl)
 
-full-none : (gens s : List ℕ) → Full ≡ made_of gens (first_of s) → s ≡ []
+full-none : (gens s : List ℕ) → None ≡ made_of gens (first_of s) → s ≡ []
 full-none gens [] e = refl
 full-none gens (x ∷ s) e = absurd (let z : ◌≡◌ {A = ℕ} 0 1 = cc in omega arith)
 
-module _ (links gens : List ℕ) (arena : GenArena) (h : IsHeap (heap links gens arena)) (links' : List ℕ) (r : Allocated)
-    (a : AllocatesHandle 1024 h.calls links links' gens arena r) where
-  pub taken : (x : Handle) → r.handle ≡ Made x → Popped (heap links gens arena) x.idx (heap links' gens r.arena)
+module _ (links gens : List ℕ) (arena : GenArena) (h : IsHeap (heap links gens arena)) (links' : List ℕ) (arena' : GenArena) (r : Option Handle)
+    (a : AllocatesHandle 1024 h.calls links links' gens arena arena' r) where
+  pub taken : (x : Handle) → r ≡ Some x → Popped (heap links gens arena) x.idx (heap links' gens arena')
   taken x e =
       let s : List ℕ = (after 1024 h.calls).slots in
       let f = made-first (after 1024 h.calls).generations s x (sym e ∙ a.answer) in
-      let g : free_of (heap links' gens r.arena) ≡ (after 1024 (h.calls ++ (allocate ∷ []))).slots = free-is (heap links' gens r.arena) _ a.grown in
+      let g : free_of (heap links' gens arena') ≡ (after 1024 (h.calls ++ (allocate ∷ []))).slots = free-is (heap links' gens arena') _ a.grown in
       let st : (after 1024 (h.calls ++ (allocate ∷ []))).slots ≡ Rattle.free_list.specs.Stack.rest s = ap (λ (b : Rattle.gen_arena.specs.Arena.Arena). b.slots) (after-snoc 1024 h.calls allocate) in
       record {
         heap = record { calls = h.calls ++ (allocate ∷ []); grown = a.grown };
         free = free-is (heap links gens arena) h.calls h.grown ∙ f.1 ∙ ap (λ (t : List ℕ). x.idx ∷ t) (sym (g ∙ st ∙ ap Rattle.free_list.specs.Stack.rest f.1));
       }
 
-  pub taken-low : (x : Handle) → r.handle ≡ Made x → x.idx < 1024
+  pub taken-low : (x : Handle) → r ≡ Some x → x.idx < 1024
   taken-low x e =
       let p = taken x e in
       elim (native.Mathlib.Decide.dec_lt x.idx 1024) [
@@ -126,22 +124,22 @@ module _ (links gens : List ℕ) (arena : GenArena) (h : IsHeap (heap links gens
         | no q ↦ absurd (omega (arith, free-low (heap links gens arena) h.calls h.grown x.idx (omega arith), ap (cnt x.idx) p.free, bit-same x.idx))
       ]
 
-  pub taken_not : r.handle ≡ Full → 1 ≤ length (free_of (heap links gens arena)) → ⊥
+  pub taken_not : r ≡ None → 1 ≤ length (free_of (heap links gens arena)) → ⊥
   taken_not e l =
       let n : (after 1024 h.calls).slots ≡ [] = full-none (after 1024 h.calls).generations _ (sym e ∙ a.answer) in
       omega (arith, ap length (free-is (heap links gens arena) h.calls h.grown ∙ n))
 
 -- ---- a slot is given back
 
-module _ (links gens : List ℕ) (arena : GenArena) (h : IsHeap (heap links gens arena)) (links' gens' : List ℕ) (x : Handle) (r : Freed)
-    (a : FreesHandle 1024 h.calls x links links' gens gens' arena r) where
-  pub given_back : x.idx < 1024 → cnt x.idx (free_of (heap links gens arena)) ≡ 0 → Pushed (heap links gens arena) x.idx (heap links' gens' r.arena)
+module _ (links gens : List ℕ) (arena : GenArena) (h : IsHeap (heap links gens arena)) (links' gens' : List ℕ) (x : Handle) (arena' : GenArena) (r : Bool)
+    (a : FreesHandle 1024 h.calls x links links' gens gens' arena arena' r) where
+  pub given_back : x.idx < 1024 → cnt x.idx (free_of (heap links gens arena)) ≡ 0 → Pushed (heap links gens arena) x.idx (heap links' gens' arena')
   given_back l z =
       let s : List ℕ = (after 1024 h.calls).slots in
       let fs = free-is (heap links gens arena) h.calls h.grown in
       let n : has x.idx s ≡ false = has-none x.idx s (rw fs at z) in
       let f : freeable 1024 s x.idx ≡ true = rw (lt-ltb x.idx 1024 l, n) in
-      let g = free-is (heap links' gens' r.arena) _ a.grown in
+      let g = free-is (heap links' gens' arena') _ a.grown in
       let st = ap (λ (b : Rattle.gen_arena.specs.Arena.Arena). b.slots) (after-snoc 1024 h.calls (free x)) in
       record {
         heap = record { calls = h.calls ++ (free x ∷ []); grown = a.grown };
@@ -150,24 +148,24 @@ module _ (links gens : List ℕ) (arena : GenArena) (h : IsHeap (heap links gens
 
 -- ---- the code's calls
 
-module _ (next links gens : List ℕ) (arena : GenArena) (p : ℕ) (c : CanInsert next (heap links gens arena) p) (links' : List ℕ) (r : Allocated)
-    (a : (n : ℕ) (calls : List ArenaCall) → GrownArena n links gens arena calls → AllocatesHandle n calls links links' gens arena r) where
-  pub slot-low : (x : Handle) → r.handle ≡ Made x → x.idx < 1024
-  slot-low x e = taken-low links gens arena c.heap links' r (a 1024 c.heap.calls c.heap.grown) x e
+module _ (next links gens : List ℕ) (arena : GenArena) (p : ℕ) (c : CanInsert next (heap links gens arena) p) (links' : List ℕ) (arena' : GenArena) (r : Option Handle)
+    (a : (n : ℕ) (calls : List ArenaCall) → GrownArena n links gens arena calls → AllocatesHandle n calls links links' gens arena arena' r) where
+  pub slot-low : (x : Handle) → r ≡ Some x → x.idx < 1024
+  slot-low x e = taken-low links gens arena c.heap links' arena' r (a 1024 c.heap.calls c.heap.grown) x e
 
-  pub inserts : (x : Handle) → r.handle ≡ Made x → Inserts next (heap links gens arena) p x.idx (linked next p x.idx) (heap links' gens r.arena)
-  inserts x e = record { link = refl; popped = taken links gens arena c.heap links' r (a 1024 c.heap.calls c.heap.grown) x e }
+  pub inserts : (x : Handle) → r ≡ Some x → Inserts next (heap links gens arena) p x.idx (linked next p x.idx) (heap links' gens arena')
+  inserts x e = record { link = refl; popped = taken links gens arena c.heap links' arena' r (a 1024 c.heap.calls c.heap.grown) x e }
 
-  pub inserts-not : r.handle ≡ Full → (x : ℕ) → Inserts next (heap links gens arena) p x next (heap links' gens r.arena)
-  inserts-not e x = absurd (taken_not links gens arena c.heap links' r (a 1024 c.heap.calls c.heap.grown) e c.some)
+  pub inserts-not : r ≡ None → (x : ℕ) → Inserts next (heap links gens arena) p x next (heap links' gens arena')
+  inserts-not e x = absurd (taken_not links gens arena c.heap links' arena' r (a 1024 c.heap.calls c.heap.grown) e c.some)
 
-pub removes : (next links gens : List ℕ) (arena : GenArena) (p : ℕ) (c : CanRemove next (heap links gens arena) p) (links' gens' : List ℕ) (g : ℕ) (r : Freed)
-    → ((n : ℕ) (calls : List ArenaCall) → GrownArena n links gens arena calls → FreesHandle n calls (record { idx = get_or next p 0; generation = g }) links links' gens gens' arena r)
-    → Removes next (heap links gens arena) p (unlinked next p) (heap links' gens' r.arena)
-removes next links gens arena p c links' gens' g r a =
+pub removes : (next links gens : List ℕ) (arena : GenArena) (p : ℕ) (c : CanRemove next (heap links gens arena) p) (links' gens' : List ℕ) (g : ℕ) (arena' : GenArena) (r : Bool)
+    → ((n : ℕ) (calls : List ArenaCall) → GrownArena n links gens arena calls → FreesHandle n calls (record { idx = get_or next p 0; generation = g }) links links' gens gens' arena arena' r)
+    → Removes next (heap links gens arena) p (unlinked next p) (heap links' gens' arena')
+removes next links gens arena p c links' gens' g arena' r a =
     record {
       link = refl;
-      pushed = given_back links gens arena c.heap links' gens' _ r (a 1024 c.heap.calls c.heap.grown) c.slot c.used;
+      pushed = given_back links gens arena c.heap links' gens' _ arena' r (a 1024 c.heap.calls c.heap.grown) c.slot c.used;
     }
 
 pub popped-low : (fl : Heap) (x : ℕ) (fl' : Heap) → IsHeap fl → Popped fl x fl' → x < 1024

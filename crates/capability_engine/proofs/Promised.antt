@@ -6,7 +6,7 @@ use lib.ListN.{length}
 use contract.Lifetimes.{Lfts}
 use denote.Triple.Clauses.{AtExit}
 use borrow.Fn.Kinds.{ParamKind, ResultKind, Out, Dens, res_t, ended_of}
-use Rattle.definitions.specs.declared.answer.Answer.{Answer}
+use Rattle.definitions.specs.Answers.{Answer}
 use Rattle.definitions.specs.declared.call.Call.TheVariants.{Add, Remove, Refcount, Overlaps, Map, Unmap, UnmapGpa, Permissions, Remap, Allow}
 use Rattle.capability_engine.specs.declared.compartments.Tables.{Tables}
 use Rattle.capability_engine.specs.CompartmentGrown.{Creates}
@@ -35,10 +35,10 @@ use Rattle.capability_engine.proofs.compartments.Tables.stream.Reads as stream
 use Rattle.capability_engine.proofs.compartments.Tables.stream.Kinds as stream-kinds
 use Rattle.capability_engine.proofs.remapper.Remapper.copy_segments.Reads as copy-segments
 use Rattle.capability_engine.proofs.remapper.Remapper.copy_segments.Kinds as copy-segments-kinds
-use Rattle.capability_engine.proofs.stream.start.Reads as start
-use Rattle.capability_engine.proofs.stream.start.Kinds as start-kinds
-use Rattle.capability_engine.proofs.stream.next_mapping.Reads as next-mapping
-use Rattle.capability_engine.proofs.stream.next_mapping.Kinds as next-mapping-kinds
+use Rattle.capability_engine.proofs.lists.Lists.start.Reads as start
+use Rattle.capability_engine.proofs.lists.Lists.start.Kinds as start-kinds
+use Rattle.capability_engine.proofs.lists.Lists.next_mapping.Reads as next-mapping
+use Rattle.capability_engine.proofs.lists.Lists.next_mapping.Kinds as next-mapping-kinds
 
 -- a function's contract gives a promise about its arguments a, its answer z and what it leaves, e
 abbrev pub Gives : (n : ℕ) (ps : List (ParamKind n)) (r : ResultKind n) → Out n ps r → Out n ps r → Type 0
@@ -52,70 +52,70 @@ new-creates : Gives 4 new-kinds.ps new-kinds.r new.Learnt (λ κs a z e.
     Creates a.0.now a.1.0.now a.1.1.0.now a.1.1.1.0.now e.1.1.0.now e.1.1.1.0.now z)
 new-creates κs a z e p = p
 
-add-changes : Gives 4 add-kinds.ps add-kinds.r add.Learnt (λ κs a z e.
+add-changes : Gives 5 add-kinds.ps add-kinds.r add.Learnt (λ κs a z e.
     let b = a.1.1.1.1.1 in
     let f = e.1.1.1.1.1 in
-    Changes (Add a.1.0 a.1.1.0 a.1.1.1.0 a.1.1.1.1.0) (memory b.0.now b.1.0.now b.1.1.0.now b.1.1.1.0.now a.0) (memory f.0.now f.1.0.now f.1.1.0.now f.1.1.1.0.now z.tables) z.answer)
+    Changes (Add a.1.0 a.1.1.0 a.1.1.1.0 a.1.1.1.1.0) (memory b.0.now b.1.0.now b.1.1.0.now b.1.1.1.0.now a.0.now) (memory f.0.now f.1.0.now f.1.1.0.now f.1.1.1.0.now e.0.now) z)
 add-changes κs a z e p = p
 
-remove-changes : Gives 4 remove-kinds.ps remove-kinds.r remove.Learnt (λ κs a z e.
+remove-changes : Gives 5 remove-kinds.ps remove-kinds.r remove.Learnt (λ κs a z e.
     let b = a.1.1.1.1.1 in
     let f = e.1.1.1.1.1 in
-    Changes (Remove a.1.0 a.1.1.0 a.1.1.1.0 a.1.1.1.1.0) (memory b.0.now b.1.0.now b.1.1.0.now b.1.1.1.0.now a.0) (memory f.0.now f.1.0.now f.1.1.0.now f.1.1.1.0.now z.tables) z.answer)
+    Changes (Remove a.1.0 a.1.1.0 a.1.1.1.0 a.1.1.1.1.0) (memory b.0.now b.1.0.now b.1.1.0.now b.1.1.1.0.now a.0.now) (memory f.0.now f.1.0.now f.1.1.0.now f.1.1.1.0.now e.0.now) z)
 remove-changes κs a z e p = p
 
-map-changes : Gives 4 map-kinds.ps map-kinds.r map.Learnt (λ κs a z e.
+map-changes : Gives 5 map-kinds.ps map-kinds.r map.Learnt (λ κs a z e.
     let b = a.1.1.1.1.1.1 in
-    Changes (Map a.1.0 a.1.1.0 a.1.1.1.0 a.1.1.1.1.0 a.1.1.1.1.1.0) (memory b.0.now b.1.0.now b.1.1.0.now b.1.1.1.0.now a.0) (memory b.0.now b.1.0.now b.1.1.0.now b.1.1.1.0.now z.tables) z.answer)
+    Changes (Map a.1.0 a.1.1.0 a.1.1.1.0 a.1.1.1.1.0 a.1.1.1.1.1.0) (memory b.0.now b.1.0.now b.1.1.0.now b.1.1.1.0.now a.0.now) (memory b.0.now b.1.0.now b.1.1.0.now b.1.1.1.0.now e.0.now) z)
 map-changes κs a z e p = p
 
-unmap-range-changes : Gives 4 unmap-range-kinds.ps unmap-range-kinds.r unmap-range.Learnt (λ κs a z e.
+unmap-range-changes : Gives 5 unmap-range-kinds.ps unmap-range-kinds.r unmap-range.Learnt (λ κs a z e.
     let b = a.1.1.1.1 in
-    Changes (Unmap a.1.0 a.1.1.0 a.1.1.1.0) (memory b.0.now b.1.0.now b.1.1.0.now b.1.1.1.0.now a.0) (memory b.0.now b.1.0.now b.1.1.0.now b.1.1.1.0.now z.tables) z.answer)
+    Changes (Unmap a.1.0 a.1.1.0 a.1.1.1.0) (memory b.0.now b.1.0.now b.1.1.0.now b.1.1.1.0.now a.0.now) (memory b.0.now b.1.0.now b.1.1.0.now b.1.1.1.0.now e.0.now) z)
 unmap-range-changes κs a z e p = p
 
-unmap-gpa-range-changes : Gives 4 unmap-gpa-range-kinds.ps unmap-gpa-range-kinds.r unmap-gpa-range.Learnt (λ κs a z e.
+unmap-gpa-range-changes : Gives 5 unmap-gpa-range-kinds.ps unmap-gpa-range-kinds.r unmap-gpa-range.Learnt (λ κs a z e.
     let b = a.1.1.1.1 in
-    Changes (UnmapGpa a.1.0 a.1.1.0 a.1.1.1.0) (memory b.0.now b.1.0.now b.1.1.0.now b.1.1.1.0.now a.0) (memory b.0.now b.1.0.now b.1.1.0.now b.1.1.1.0.now z.tables) z.answer)
+    Changes (UnmapGpa a.1.0 a.1.1.0 a.1.1.1.0) (memory b.0.now b.1.0.now b.1.1.0.now b.1.1.1.0.now a.0.now) (memory b.0.now b.1.0.now b.1.1.0.now b.1.1.1.0.now e.0.now) z)
 unmap-gpa-range-changes κs a z e p = p
 
-allow-changes : Gives 4 allow-kinds.ps allow-kinds.r allow.Learnt (λ κs a z e.
+allow-changes : Gives 5 allow-kinds.ps allow-kinds.r allow.Learnt (λ κs a z e.
     let b = a.1.1.1 in
-    Changes (Allow a.1.0 a.1.1.0) (memory b.0.now b.1.0.now b.1.1.0.now b.1.1.1.0.now a.0) (memory b.0.now b.1.0.now b.1.1.0.now b.1.1.1.0.now z.tables) z.answer)
+    Changes (Allow a.1.0 a.1.1.0) (memory b.0.now b.1.0.now b.1.1.0.now b.1.1.1.0.now a.0.now) (memory b.0.now b.1.0.now b.1.1.0.now b.1.1.1.0.now e.0.now) z)
 allow-changes κs a z e p = p
 
-get-refcount-asks : Gives 4 get-refcount-kinds.ps get-refcount-kinds.r get-refcount.Learnt (λ κs a z e.
+get-refcount-asks : Gives 5 get-refcount-kinds.ps get-refcount-kinds.r get-refcount.Learnt (λ κs a z e.
     let b = a.1.1.1.1 in
-    Asks (Refcount a.1.0 a.1.1.0 a.1.1.1.0) (memory b.0.now b.1.0.now b.1.1.0.now b.1.1.1.0.now a.0) z)
+    Asks (Refcount a.1.0 a.1.1.0 a.1.1.1.0) (memory b.0.now b.1.0.now b.1.1.0.now b.1.1.1.0.now a.0.now) z)
 get-refcount-asks κs a z e p = p
 
-overlaps-asks : Gives 4 overlaps-kinds.ps overlaps-kinds.r overlaps.Learnt (λ κs a z e.
+overlaps-asks : Gives 5 overlaps-kinds.ps overlaps-kinds.r overlaps.Learnt (λ κs a z e.
     let b = a.1.1.1.1 in
-    Asks (Overlaps a.1.0 a.1.1.0 a.1.1.1.0) (memory b.0.now b.1.0.now b.1.1.0.now b.1.1.1.0.now a.0) z)
+    Asks (Overlaps a.1.0 a.1.1.0 a.1.1.1.0) (memory b.0.now b.1.0.now b.1.1.0.now b.1.1.1.0.now a.0.now) z)
 overlaps-asks κs a z e p = p
 
-permissions-asks : Gives 5 permissions-kinds.ps permissions-kinds.r permissions.Learnt (λ κs a z e.
+permissions-asks : Gives 6 permissions-kinds.ps permissions-kinds.r permissions.Learnt (λ κs a z e.
     let b = a.1.1.1.1 in
-    Asks (Permissions a.1.0 a.1.1.0 (length a.1.1.1.0.now)) (memory b.0.now b.1.0.now b.1.1.0.now b.1.1.1.0.now a.0) z)
+    Asks (Permissions a.1.0 a.1.1.0 (length a.1.1.1.0.now)) (memory b.0.now b.1.0.now b.1.1.0.now b.1.1.1.0.now a.0.now) z)
 permissions-asks κs a z e p calls g = (p calls g).reads
 
-stream-pages : Gives 5 stream-kinds.ps stream-kinds.r stream.Learnt (λ κs a z e.
+stream-pages : Gives 6 stream-kinds.ps stream-kinds.r stream.Learnt (λ κs a z e.
     let b = a.1.1.1.1 in
-    Page (memory b.0.now b.1.0.now b.1.1.0.now b.1.1.1.0.now a.0) a.1.0 a.1.1.0 a.1.1.1.0.now e.1.1.1.0.now z)
+    Page (memory b.0.now b.1.0.now b.1.1.0.now b.1.1.1.0.now a.0.now) a.1.0 a.1.1.0 a.1.1.1.0.now e.1.1.1.0.now z)
 stream-pages κs a z e p = p
 
 -- a page is a call that asks, too
 page-asks : {m : Memory} {k from : ℕ} {out out' : List ℕ} {a : Answer} → Page m k from out out' a → Asks (Remap k from (length out)) m a
 page-asks p calls g = (p calls g).reads
 
-copy-segments-copies : Gives 1 copy-segments-kinds.ps copy-segments-kinds.r copy-segments.Learnt (λ κs a z e.
-    Copies a.0 a.1.0.now e.1.0.now z)
+copy-segments-copies : Gives 2 copy-segments-kinds.ps copy-segments-kinds.r copy-segments.Learnt (λ κs a z e.
+    Copies a.0.now a.1.0.now e.1.0.now z)
 copy-segments-copies κs a z e p = p
 
-start-begins : Gives 3 start-kinds.ps start-kinds.r start.Learnt (λ κs a z e.
-    Begins a.0.now a.1.0.now a.1.1.0.now a.1.1.1.0 a.1.1.1.1.0 z)
+start-begins : Gives 1 start-kinds.ps start-kinds.r start.Learnt (λ κs a z e.
+    Begins a.0.next.now a.0.words.now a.0.segments.now a.0.n a.1.0 z)
 start-begins κs a z e p table whole = (p.0, p.1.0)
 
-next-mapping-steps : Gives 3 next-mapping-kinds.ps next-mapping-kinds.r next-mapping.Learnt (λ κs a z e.
-    Steps a.1.0.now a.1.1.0.now a.1.1.1.0.now a.1.1.1.1.0 a.0 z)
+next-mapping-steps : Gives 1 next-mapping-kinds.ps next-mapping-kinds.r next-mapping.Learnt (λ κs a z e.
+    Steps a.0.next.now a.0.words.now a.0.segments.now a.0.n a.1.0 z)
 next-mapping-steps κs a z e p table ready = p

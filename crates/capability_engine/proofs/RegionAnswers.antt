@@ -16,16 +16,16 @@ use Rattle.definitions.specs.declared.addr.HostAddr.{HostAddr}
 use Rattle.definitions.specs.declared.region.Region.{Region}
 use Rattle.definitions.specs.declared.answer.Refusal.{Refusal}
 use Rattle.definitions.specs.declared.answer.Refusal.TheVariants.{CountFull, OutOfMemory, InvalidRegion, EndedBefore, CountEmpty}
-use Rattle.definitions.specs.declared.answer.Answer.{Answer}
-use Rattle.definitions.specs.declared.answer.Answer.TheVariants.{Accepted, Refused}
+use Rattle.definitions.specs.Answers.{Answer}
+use Rattle.std.specs.Prelude.{Result, Ok, Err}
 use Rattle.definitions.proofs.Bools.{and-true}
 use Rattle.definitions.proofs.Lists.{Ordered}
 use Rattle.definitions.proofs.RegionLaws.{Cuts, splits-it, at_most, past, cuts?}
 use Rattle.definitions.proofs.PeakLaws.{hole, gaps}
-use Rattle.definitions.proofs.Tables.{can_raise_on, add_change_on, new_records_on, remove_change_on, add_on, remove_on}
+use Rattle.definitions.proofs.Tables.{can_raise_on, add_change_on, new_records_on, remove_change_on}
 use Rattle.capability_engine.specs.declared.region.AddAsk.{AddAsk}
 use Rattle.capability_engine.specs.declared.region.RemoveAsk.{RemoveAsk}
-use Rattle.capability_engine.specs.RegionAsks.{fold_from, low_enough, gap_from, gap_here, add_step, add_begin, frees_one, remove_step, remove_begin, most_of}
+use Rattle.capability_engine.specs.RegionAsks.{answer_after, judged_add, judged_remove, fold_from, low_enough, gap_from, gap_here, add_step, add_begin, frees_one, remove_step, remove_begin, most_of}
 use Rattle.capability_engine.proofs.PoolOwns.{bit_le}
 use Rattle.capability_engine.proofs.RegionSteps.{from-skip, from-stop, from_on, here-skip, here-stop, here_on}
 
@@ -143,26 +143,22 @@ add-fold a e k (r ∷ rs) ask =
       fresh = ih.fresh ∙ or_assoc ask.fresh _ _;
     }
 
-room-test : (m room n : ℕ) (b c : Bool) → (0 <? ((room + 1 - n) - bit b) - bit c) ≡ (m + (bit b + bit c + n) ≤? m + room)
-room-test m room n b c =
-    elim (dec_lt 0 (((room + 1 - n) - bit b) - bit c)) [
-      | yes p ↦ lt-ltb 0 (((room + 1 - n) - bit b) - bit c) p ∙ sym (le-leb (m + (bit b + bit c + n)) (m + room) (omega arith))
-      | no p ↦ le-ltb 0 (((room + 1 - n) - bit b) - bit c) (omega arith) ∙ sym (lt-leb (m + (bit b + bit c + n)) (m + room) (omega arith))
+room-test : (m room n l : ℕ) (d b c : Bool) → l - bit d ≡ room + 1 - n → (bit d + (bit b + bit c) <? l) ≡ (m + (bit b + bit c + n) ≤? m + room)
+room-test m room n l d b c h =
+    elim (dec_lt (bit d + (bit b + bit c)) l) [
+      | yes p ↦ lt-ltb (bit d + (bit b + bit c)) l p ∙ sym (le-leb (m + (bit b + bit c + n)) (m + room) (omega arith))
+      | no p ↦ le-ltb (bit d + (bit b + bit c)) l (omega arith) ∙ sym (lt-leb (m + (bit b + bit c + n)) (m + room) (omega arith))
     ]
 
-pub add-answer : (a e : HostAddr) (k room : ℕ) (rs : List Region) (w : AddAsk) (left1 left2 left3 num : ℕ) (ch1 ch2 : Bool) (fifth fourth r : Answer)
-    → w ≡ fold_from (add_step a e k) (add_begin room a) rs
-    → left1 ≡ w.left - bit (w.from.0 <? e.0) → left2 ≡ left1 - bit w.cuts_start → left3 ≡ left2 - bit w.cuts_end
-    → ch1 ≡ (w.gap || (w.from.0 <? e.0)) → ch2 ≡ (ch1 || w.fresh) → num ≡ bit ch2
-    → fifth ≡ (if 0 <? left3 then Accepted num else Refused OutOfMemory) → fourth ≡ (if w.raisable then fifth else Refused CountFull)
-    → r ≡ ranged a e k fourth → r ≡ add_on (length rs + room) rs a e k
-unfolding add_on ask new_records_on add_change_on
-add-answer a e k room rs w left1 left2 left3 num ch1 ch2 fifth fourth r ew e1 e2 e3 c1 c2 en ef eg er =
+pub add-answer : (a e : HostAddr) (k room : ℕ) (rs : List Region) (w : AddAsk) (r : Answer)
+    → w ≡ fold_from (add_step a e k) (add_begin room a) rs → r ≡ judged_add e w
+    → r ≡ ask ((can_raise_on a e k rs, CountFull) ∷ (length rs + new_records_on a e rs ≤? length rs + room, OutOfMemory) ∷ []) (Ok (add_change_on a e k rs))
+unfolding ask judged_add new_records_on add_change_on
+add-answer a e k room rs w r ew er =
     let f : AddFold a e k (add_begin room a) rs w = rw ew (add-fold a e k rs (add_begin room a)) in
-    let t : (0 <? left3) ≡ (length rs + new_records_on a e rs ≤? length rs + room) =
-    rw (e3, e2, e1, f.left, f.cuts_start, f.cuts_end) (room-test (length rs) room (length (gaps a e rs)) (any (splits a) rs) (any (splits e) rs)) in
-    let m : num ≡ add_change_on a e k rs = rw (en, c2, c1, f.gap, f.fresh) in
-    er ∙ ap (ranged a e k) (rw (eg, ef, f.raisable, t, m))
+    let t : (bit (w.from.0 <? e.0) + (bit w.cuts_start + bit w.cuts_end) <? w.left) ≡ (length rs + new_records_on a e rs ≤? length rs + room) =
+    rw (f.cuts_start, f.cuts_end) (room-test (length rs) room (length (gaps a e rs)) w.left (w.from.0 <? e.0) (any (splits a) rs) (any (splits e) rs) f.left) in
+    er ∙ rw (t, f.raisable, f.gap, f.fresh)
 
 -- ---- a remove
 
@@ -305,21 +301,20 @@ second-test m room n b l f = go (bit b) (bit_le b)
           | no p ↦ le-leb ((1025 - room) - n) (1024 - c) (omega arith) ∙ sym (le-leb (m + c - n + 1) (m + room) (omega arith))
         ]
 
-pub remove-answer : (a e : HostAddr) (k room : ℕ) (rs : List Region) (w : RemoveAsk) (lim num : ℕ) (first second fit : Bool) (eighth fifth seventh sixth r : Answer)
-    → Ordered 0 rs → length rs + room ≤ 1024 → w ≡ fold_from (remove_step a e k) (remove_begin room) rs
-    → first ≡ (not w.cuts_start || (0 <? room)) → lim ≡ 1024 - bit w.cuts_start → second ≡ (not w.cuts_end || (w.lack ≤? lim)) → fit ≡ (first && second)
-    → num ≡ bit w.gone → eighth ≡ (if w.lowerable then Accepted num else Refused CountEmpty) → fifth ≡ (if fit then eighth else Refused OutOfMemory)
-    → seventh ≡ (if a.0 <? w.last.0 then fifth else Refused EndedBefore) → sixth ≡ (if w.begun then seventh else Refused InvalidRegion)
-    → r ≡ ranged a e k sixth → r ≡ remove_on (length rs + room) rs a e k
-unfolding remove_on ask cuts_fit remove_change_on freed
-remove-answer a e k room rs w lim num first second fit eighth fifth seventh sixth r o few ew e1 el e2 et en e8 e5 e7 e6 er =
+pub remove-answer : (a e : HostAddr) (k room : ℕ) (rs : List Region) (w : RemoveAsk) (r : Answer)
+    → Ordered 0 rs → length rs + room ≤ 1024 → w ≡ fold_from (remove_step a e k) (remove_begin room) rs → r ≡ judged_remove room a w
+    → r ≡ ask
+    ((1 ≤? length (begun a rs), InvalidRegion) ∷ (a.0 <? last_end 0 (begun a rs), EndedBefore)
+    ∷ (cuts_fit (length rs) (length rs + room) a e rs, OutOfMemory) ∷ (can_lower a e k rs, CountEmpty) ∷ [])
+    (Ok (remove_change_on a e k rs))
+unfolding ask judged_remove cuts_fit remove_change_on freed
+remove-answer a e k room rs w r o few ew er =
     let f : RemoveFold a e k (remove_begin room) rs w = rw ew (remove-fold a e k rs (remove_begin room)) in
     let fr : freed a e rs ≡ count (frees_one a e) rs = frees-total a e rs o in
-    let t1 : first ≡ (length rs + bit (any (splits a) rs) ≤? length rs + room) = rw (e1, f.cuts_start) (first-test (length rs) room (any (splits a) rs)) in
-    let t2 : (w.lack ≤? lim) ≡ (length rs + bit (any (splits a) rs) - freed a e rs + 1 ≤? length rs + room) =
-    rw (el, f.lack, f.cuts_start, fr) (second-test (length rs) room (count (frees_one a e) rs) (any (splits a) rs) (count-few (frees_one a e) rs) few) in
-    let t3 : second ≡ (not (any (splits e) rs) || (length rs + bit (any (splits a) rs) - freed a e rs + 1 ≤? length rs + room)) = rw (e2, f.cuts_end, t2) in
-    er ∙ ap (ranged a e k) (rw (e6, e7, e5, e8, et, t1, t3, en, f.starts, f.last, f.lowerable, f.gone))
+    let t1 : (not w.cuts_start || (0 <? room)) ≡ (length rs + bit (any (splits a) rs) ≤? length rs + room) = rw f.cuts_start (first-test (length rs) room (any (splits a) rs)) in
+    let t2 : (w.lack ≤? 1024 - bit w.cuts_start) ≡ (length rs + bit (any (splits a) rs) - freed a e rs + 1 ≤? length rs + room) =
+    rw (f.lack, f.cuts_start, fr) (second-test (length rs) room (count (frees_one a e) rs) (any (splits a) rs) (count-few (frees_one a e) rs) few) in
+    er ∙ rw (t1, t2, f.cuts_end, f.starts, f.last, f.lowerable, f.gone)
 
 -- ---- the most holders
 
@@ -335,28 +330,15 @@ most-from a e (r ∷ rs) n = go (meets a e r) refl (most-from a e rs)
 pub most-all : (a e : HostAddr) (rs : List Region) (n : ℕ) → n ≡ fold_from (most_of a e) 0 rs → n ≡ refcount_of a e rs
 most-all a e rs n h = h ∙ most-from a e rs 0 ∙ (omega arith)
 
-pub most-more : (a e : HostAddr) (n : ℕ) (r : Region) (b : Bool) → b ≡ meets a e r → b ≡ true → n < r.values.refcount → r.values.refcount ≡ most_of a e n r
-unfolding most_of
-most-more a e n r b eb h l = let d : meets a e r ≡ true = sym eb ∙ h in rw d (omega arith)
+-- ---- questions 2 and 3, and an empty range
 
-pub most-same : (a e : HostAddr) (n : ℕ) (r : Region) (b : Bool) → b ≡ meets a e r → b ≡ true → r.values.refcount ≤ n → n ≡ most_of a e n r
-unfolding most_of
-most-same a e n r b eb h l = let d : meets a e r ≡ true = sym eb ∙ h in rw d (omega arith)
+module _ (a e : HostAddr) (k : ℕ) (q : Result Unit Refusal) (h : (rest : Answer) → ranged a e k rest ≡ answer_after q a e rest) where
+  module _ (rest : Answer) where
+    pub ranged-no : (why : Refusal) → q ≡ Err why → Err why ≡ ranged a e k rest
+    ranged-no why eq = sym (h rest ∙ ap (λ x. answer_after x a e rest) eq)
 
-pub most-not : (a e : HostAddr) (n : ℕ) (r : Region) (b : Bool) → b ≡ meets a e r → b ≡ false → n ≡ most_of a e n r
-unfolding most_of
-most-not a e n r b eb h = let d : meets a e r ≡ false = sym eb ∙ h in rw d
+    pub ranged-none : (u : Unit) → q ≡ Ok u → a.0 ≡ e.0 → Ok 0 ≡ ranged a e k rest
+    ranged-none u eq d = sym (h rest ∙ ap (λ x. answer_after x a e rest) eq ∙ rw (eq-eqb a.0 e.0 d))
 
--- ---- the functions that pick an answer
-
-pub pick_yes : (b : Bool) (why : Refusal) (x : Answer) → b ≡ true → x ≡ (if b then x else Refused why)
-pick_yes b why x d = rw d
-
-pub pick_no : (b : Bool) (why : Refusal) (x : Answer) → b ≡ false → Refused why ≡ (if b then x else Refused why)
-pick_no b why x d = rw d
-
-pub empty-yes : (a e : HostAddr) (x : Answer) → a.0 ≡ e.0 → Accepted 0 ≡ (if a.0 =? e.0 then Accepted 0 else x)
-empty-yes a e x d = rw (eq-eqb a.0 e.0 d)
-
-pub empty-no : (a e : HostAddr) (x : Answer) → (a.0 ≡ e.0 → ⊥) → x ≡ (if a.0 =? e.0 then Accepted 0 else x)
-empty-no a e x d = rw (ne_eqb a.0 e.0 d)
+    pub ranged_on : (u : Unit) → q ≡ Ok u → (a.0 ≡ e.0 → ⊥) → rest ≡ ranged a e k rest
+    ranged_on u eq d = sym (h rest ∙ ap (λ x. answer_after x a e rest) eq ∙ rw (ne_eqb a.0 e.0 d))

@@ -8,13 +8,13 @@ use mathlib.Core.List.{List, [], ◌∷◌, ◌++◌}
 use native.Mathlib.Omega.{arith}
 use native.Mathlib.Decide.{dec_lt}
 use lib.ListN.{get_or}
-use borrow.Author.Tests.{lt-ltb, le-ltb, le-leb, lt-leb, eqb-true}
+use borrow.Author.Tests.{lt-ltb, le-ltb, le-leb, lt-leb}
 use Rattle.definitions.specs.Tests.{◌<?◌, ◌≤?◌, ◌=?◌, bit}
 use Rattle.definitions.specs.Regions.{meets, splits}
 use Rattle.definitions.specs.Questions.{every_named}
 use Rattle.definitions.specs.declared.addr.HostAddr.{HostAddr}
 use Rattle.definitions.specs.declared.region.Region.{Region}
-use Rattle.definitions.proofs.Bools.{and-false, or-true, both}
+use Rattle.definitions.proofs.Bools.{and-false, or-true}
 use Rattle.definitions.proofs.Lists.{Ordered}
 use Rattle.definitions.proofs.RegionLaws.{ordered-from}
 use Rattle.definitions.proofs.RunLaws.{host-eq}
@@ -242,13 +242,11 @@ module _ (a e : HostAddr) (k : ℕ) (nx ws : List ℕ) where
     pub add-on : Folding (add_step a e k) nx ws (get_or nx cur 0) b w × Ordered 0 (stored_at nx ws (get_or nx cur 0))
     add-on = fold_on (add_step a e k) nx ws cur ask b w r f o l er eb
 
-    pub add-stop : (h g : Bool) → h ≡ ((b.from.0 =? e.0) && g) → (g ≡ true → (a.0 ≤ r.start.0) × (e.0 ≤ r.start.0)) → h ≡ true → b ≡ w
-    add-stop h g eh eg d =
-        let t = both (b.from.0 =? e.0) g (sym eh ∙ d) in
-        let q = eg t.1 in
+    pub add-stop : b.from.0 ≡ e.0 → (a.0 ≤ r.start.0) × (e.0 ≤ r.start.0) → b ≡ w
+    add-stop d q =
         let ls : r.start.0 < r.end.0 = rw er (cur-some nx ws cur f.listed l o) in
         let i : r.end.0 ≡ (region_at ws cur).end.0 = rw er in
-        sym (add-rest a e k b (region_at ws cur).end.0 (stored_at nx ws (get_or nx cur 0)) (later-ordered nx ws cur f.listed l o) (omega (arith, q.0)) (omega (arith, q.1)) (host-eq b.from e (eqb-true _ _ t.0)))
+        sym (add-rest a e k b (region_at ws cur).end.0 (stored_at nx ws (get_or nx cur 0)) (later-ordered nx ws cur f.listed l o) (omega (arith, q.0)) (omega (arith, q.1)) (host-eq b.from e d))
         ∙ add-on.0.all
 
   -- the last slot that was passed, if there is one, is where the walk of a remove begins: the same is found from there
@@ -303,9 +301,3 @@ module _ (a e : HostAddr) (k : ℕ) (nx ws : List ℕ) where
         let i : r.end.0 ≡ (region_at ws cur).end.0 = rw er in
         sym (remove-rest a e k b (region_at ws cur).end.0 (stored_at nx ws (get_or nx cur 0)) (later-ordered nx ws cur f.listed l o) (omega (arith, q.0)) (omega (arith, q.1)))
         ∙ remove-on.0.all
-
-pub last-yes : (q h : ℕ) → q < 1024 → q ≡ (if q <? 1024 then q else h)
-last-yes q h l = simp (lt-ltb q 1024 l)
-
-pub last-no : (q h : ℕ) → 1024 ≤ q → h ≡ (if q <? 1024 then q else h)
-last-no q h l = simp (le-ltb q 1024 l)

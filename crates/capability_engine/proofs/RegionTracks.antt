@@ -23,8 +23,8 @@ use Rattle.definitions.specs.declared.region.Values.{Values}
 use Rattle.definitions.specs.declared.region.Region.{Region}
 use Rattle.definitions.specs.declared.answer.Refusal.{Refusal}
 use Rattle.definitions.specs.declared.answer.Refusal.TheVariants.{InvalidMemOps, InvalidRange, CountFull, OutOfMemory, InvalidRegion, EndedBefore, CountEmpty, PoolExceeded, StillInUse}
-use Rattle.definitions.specs.declared.answer.Answer.{Answer}
-use Rattle.definitions.specs.declared.answer.Answer.TheVariants.{Accepted, Refused}
+use Rattle.definitions.specs.Answers.{Answer}
+use Rattle.std.specs.Prelude.{Ok, Err}
 use Rattle.definitions.proofs.Bools.{both, in-high}
 use Rattle.definitions.proofs.Lists.{values_at, gap, fill, change, peak, added, removed, Ordered, Runs, Blank}
 use Rattle.definitions.proofs.RunLaws.{regions-runs, regions-values, value-at-start}
@@ -55,11 +55,11 @@ module _ (a e : HostAddr) (nx ws : List ℕ) (fl : Heap) (head : ℕ) (rs : List
   pub changes-empty : a.0 ≡ e.0 → Changes expected a e nx ws fl head nx ws fl head rs r
   changes-empty q = record { answer = er; bound = le; done = λ h l. absurd (omega arith); empty = λ _. same; kept = λ _. same }
 
-  pub changes-not : (why : Refusal) → r ≡ Refused why → (a.0 ≡ e.0 → ⊥) → Changes expected a e nx ws fl head nx ws fl head rs r
-  changes-not why d n =
-      record { answer = er; bound = le; done = λ h l. absurd (true≢false (sym h ∙ ap accepted d)); empty = λ q. absurd (n q); kept = λ _. same }
+  pub changes-not : (why : Refusal) → r ≡ Err why → Changes expected a e nx ws fl head nx ws fl head rs r
+  changes-not why d =
+      record { answer = er; bound = le; done = λ h l. absurd (true≢false (sym h ∙ ap accepted d)); empty = λ _. same; kept = λ _. same }
 
-  pub changes-done : (v : ℕ) → r ≡ Accepted v → (a.0 ≡ e.0 → ⊥) → (nx' ws' : List ℕ) (fl' : Heap) → Pass (set nx 1024 head) ws fl nx' ws' fl' rs
+  pub changes-done : (v : ℕ) → r ≡ Ok v → (a.0 ≡ e.0 → ⊥) → (nx' ws' : List ℕ) (fl' : Heap) → Pass (set nx 1024 head) ws fl nx' ws' fl' rs
       → Changes expected a e nx ws fl head nx' ws' fl' (get_or nx' 1024 0) rs r
   changes-done v d n nx' ws' fl' p =
       record {
@@ -295,7 +295,7 @@ module _ (nx ws : List ℕ) (fl : Heap) (head : ℕ) (t : Tracked nx ws fl head)
   pub tracked-askable : (room : ℕ) → room ≤ length (free_of fl) → Askable nx ws head room
   tracked-askable room er = record { list = tracked-count; few = omega (arith, few-in) }
 
-  module _ (a e : HostAddr) (k : ℕ) (room : ℕ) (er : room ≤ length (free_of fl)) (le : e.0 ≤ 2 ^ 64) (ne : a.0 ≡ e.0 → ⊥) (r : Answer) (v : ℕ) (ev : r ≡ Accepted v) where
+  module _ (a e : HostAddr) (k : ℕ) (room : ℕ) (er : room ≤ length (free_of fl)) (le : e.0 ≤ 2 ^ 64) (ne : a.0 ≡ e.0 → ⊥) (r : Answer) (v : ℕ) (ev : r ≡ Ok v) where
     yes_of : (x : Answer) → r ≡ x → accepted x ≡ true
     yes_of x q = ap accepted (sym q ∙ ev)
 
@@ -399,12 +399,12 @@ module _ (nx ws : List ℕ) (fl : Heap) (t : RegionTracker) (al : Allotted nx ws
 -- ---- another allowance
 
 module _ (t : RegionTracker) (others n : ℕ) (few : others ≤ 1024) where
-  pub allow-over : 1024 - others < n → AllowsOne t others n (record { tracker = t; answer = Refused PoolExceeded })
+  pub allow-over : 1024 - others < n → AllowsOne t others n t (Err PoolExceeded)
   unfolding ask
   allow-over h = record { answer = sym (rw (lt-leb (others + n) 1024 (omega arith))); done = λ y. absurd (true≢false (sym y)); kept = λ _. refl }
 
   module _ (fit : n ≤ 1024 - others) where
-    pub allow-less : n < t.count → AllowsOne t others n (record { tracker = t; answer = Refused StillInUse })
+    pub allow-less : n < t.count → AllowsOne t others n t (Err StillInUse)
     unfolding ask
     allow-less h = record {
       answer = sym (rw (le-leb (others + n) 1024 (omega arith), lt-leb t.count n h));
@@ -412,7 +412,7 @@ module _ (t : RegionTracker) (others n : ℕ) (few : others ≤ 1024) where
       kept = λ _. refl;
     }
 
-    pub allow-done : t.count ≤ n → AllowsOne t others n (record { tracker = record { head = t.head; count = t.count; allowance = n }; answer = Accepted 0 })
+    pub allow-done : t.count ≤ n → AllowsOne t others n (record { head = t.head; count = t.count; allowance = n }) (Ok 0)
     unfolding ask
     allow-done h = record {
       answer = sym (rw (le-leb (others + n) 1024 (omega arith), le-leb t.count n h));

@@ -8,7 +8,7 @@ use native.Mathlib.Decide.{dec_lt}
 use lib.ListN.{get_or, length, length-map}
 use lib.Dec.{ltb, leb}
 use borrow.Author.Tests.{lt-ltb, le-ltb, le-leb, lt-leb, eq-eqb, ne_eqb, eqb-true}
-use Rattle.definitions.specs.Tests.{◌=?◌}
+use Rattle.definitions.specs.Tests.{◌=?◌, fits}
 use Rattle.definitions.specs.Values.{nothing, held, lower}
 use Rattle.definitions.specs.Regions.{region, within, splits, same, joins, join, joined, cut}
 use Rattle.definitions.specs.declared.addr.HostAddr.{HostAddr}
@@ -17,8 +17,7 @@ use Rattle.definitions.specs.declared.region.Region.{Region}
 use Rattle.definitions.proofs.Lists.{gap, fill, change}
 use Rattle.definitions.specs.Rights.{count_of, counters_of}
 use Rattle.definitions.proofs.RightLaws.{same-eq}
-use Rattle.counts.specs.Capped.{capped_counts}
-use Rattle.counts.proofs.Laws.{roomy}
+use Rattle.counts.specs.Capped.{capped, capped_counts}
 use Rattle.capability_engine.specs.PoolWords.{region_at, put_region}
 use Rattle.capability_engine.specs.PoolChain.{records}
 use Rattle.capability_engine.specs.PoolOwn.{Heap, free_of, Room, Pass, CanInsert, InsertsRegion, PutsGap, CanRemove, Removes}
@@ -69,10 +68,6 @@ module _ (y : HostAddr) {nx0 ws0 nx ws : List ℕ} {fl0 fl : Heap} {q : ℕ} {rs
         let second : Region = region y (region_at ws x).end (region_at ws x).values in
         let z1 = (zat-put _ x (region (region_at ws x).start y (region_at ws x).values) (λ t. second ∷ t) at_x refl (cut-yes y (region_at ws x) (is true h))).0 in
         of-stop (zip-insert nx' ws' fl' n second (λ t. t) z1 i refl)
-
-pub split_by : (y : HostAddr) (r : Region) → r.start.0 < y.0 → ltb y.0 r.end.0 ≡ splits y r
-unfolding splits
-split_by y r l = simp (lt-ltb r.start.0 y.0 l)
 
 pub split-not : (y : HostAddr) (r : Region) → y.0 ≤ r.start.0 → false ≡ splits y r
 unfolding splits
@@ -151,10 +146,6 @@ module _ (r q : Region) where
   unfolding joined
   join-no d t = two-no d (joined t)
 
-  pub joins-by : (f : Bool) → r.end.0 ≡ q.start.0 → f ≡ same r.values q.values → f ≡ joins r q
-  unfolding joins
-  joins-by f a e = e ∙ simp (eq-eqb _ _ a)
-
   pub joins-not : (r.end.0 ≡ q.start.0 → ⊥) → false ≡ joins r q
   unfolding joins
   joins-not a = simp (ne_eqb _ _ a)
@@ -187,14 +178,6 @@ module _ {nx0 ws0 nx ws : List ℕ} {fl0 fl : Heap} {q : ℕ} {rs : List Region}
 
 -- ---- raising
 
-pub within_by : (a e : HostAddr) (r : Region) → a.0 ≤ r.start.0 → leb r.end.0 e.0 ≡ within a e r
-unfolding within
-within_by a e r l = simp (le-leb a.0 r.start.0 l)
-
-pub within-not : (a e : HostAddr) (r : Region) → r.start.0 < a.0 → false ≡ within a e r
-unfolding within
-within-not a e r l = simp (lt-leb a.0 r.start.0 l)
-
 pub one_in : (f : Values → Values) (a e : HostAddr) (r : Region) (b : Bool) → b ≡ within a e r → b ≡ true → (s : Region) → s ≡ region r.start r.end (f r.values) → s ≡ changed_one f a e r
 unfolding changed_one
 one_in f a e r b eb h s es = rw (← eb, h) es
@@ -214,6 +197,10 @@ small-in f a e r b eb h s = let d : within a e r ≡ true = sym eb ∙ h in rw d
 
 small< : (n : ℕ) → n ≤ 65536 → n < 2 ^ 64
 small< n l = omega (arith, l)
+
+roomy : (n : ℕ) → n < 2 ^ 64 → n ≡ capped n
+unfolding capped fits
+roomy n l = simp (lt-ltb n (2 ^ 64) l)
 
 -- counts that are small enough are not capped
 pub small-stays : (a e : HostAddr) (v : Values) → Small v → region a e (capped_counts v) ≡ region a e v
@@ -417,11 +404,16 @@ pub split_done : (nx ws w1 : List ℕ) (fl : Heap) (s x : ℕ) (y : HostAddr) (r
 unfolding region
 split_done nx ws w1 fl s x y r nx' ws' fl' er ew i = rw (ew, er) at i
 
-pub gap-made : (nx ws : List ℕ) (fl : Heap) (q x : ℕ) (a e : HostAddr) (nx' ws' : List ℕ) (fl' : Heap) → a.0 < e.0
-    → InsertsRegion nx ws fl q x (record { start = a; end = e; values = record { refcount = 0; counters = counters_of (λ t. 0) } }) nx' ws' fl'
-    → PutsGap nx ws fl q a e nx' ws' fl'
-unfolding region nothing
-gap-made nx ws fl q x a e nx' ws' fl' l i = record { some = λ _. (x, i); none = λ m. absurd (omega arith) }
+-- values whose numbers are all 0
+pub nothing-is : (n a b c d e f : ℕ) → n ≡ 0 → a ≡ 0 → b ≡ 0 → c ≡ 0 → d ≡ 0 → e ≡ 0 → f ≡ 0
+    → record { refcount = n; counters = record { read = a; write = b; exec = c; supervisor = d; uncacheable = e; device = f } } ≡ nothing
+unfolding nothing
+nothing-is n a b c d e f en ea eb ec ed ee ef = rw (en, ea, eb, ec, ed, ee, ef)
+
+pub gap-made : (nx ws : List ℕ) (fl : Heap) (q x : ℕ) (a e : HostAddr) (nx' ws' : List ℕ) (fl' : Heap) → a.0 < e.0 → (v : Values) → v ≡ nothing
+    → InsertsRegion nx ws fl q x (record { start = a; end = e; values = v }) nx' ws' fl' → PutsGap nx ws fl q a e nx' ws' fl'
+unfolding region
+gap-made nx ws fl q x a e nx' ws' fl' l v ev i = record { some = λ _. (x, (rw ev at i)); none = λ m. absurd (omega arith) }
 
 pub gap-not : (nx ws : List ℕ) (fl : Heap) (q : ℕ) (a e : HostAddr) → e.0 ≤ a.0 → PutsGap nx ws fl q a e nx ws fl
 gap-not nx ws fl q a e l = record { some = λ m. absurd (omega arith); none = λ _. (refl, refl, refl) }

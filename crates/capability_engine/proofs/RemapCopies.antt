@@ -1,4 +1,5 @@
 -- The cursor, and one segment more that is copied.
+use Rattle.std.specs.Prelude.{None, Some as Found}
 use Prim.Native.Nat.{ℕ, zero, suc, ◌+◌, ◌*◌, ◌≤◌, ◌<◌}
 use mathlib.Core.Path.{◌≡◌, refl, sym, ap, ap₂, ◌∙◌}
 use mathlib.Core.Logic.{◌⊎◌, inl, inr, ⊎_elim}
@@ -11,7 +12,6 @@ use lib.Seq.{sets, length-sets, get_or-set_same, get_or-set_other}
 use Rattle.definitions.specs.Pages.{segment_group}
 use Rattle.definitions.specs.declared.remapper.Segment.{Segment}
 use Rattle.capability_engine.specs.declared.remapper.Remapper.{Remapper}
-use Rattle.capability_engine.specs.declared.remapper.NextSegment.TheVariants.{At, End}
 use Rattle.capability_engine.specs.RemapHeld.{Holds, ahead}
 use Rattle.capability_engine.specs.RemapListing.{Some, Comes, Copied}
 use Rattle.capability_engine.specs.SegmentWords.{segment_at, segments_from}
@@ -21,10 +21,10 @@ use Rattle.capability_engine.proofs.RemapWalks.{segment-at, next_of, Open, some-
 -- ---- the cursor
 
 module _ (r : Remapper) (at : ℕ) (ts : List Segment) (w : Some r at ts) where
-  pub comes-on : at < 64 → Comes r ts (At (segment-at r at) (record { next_segment = next_of r at }))
+  pub comes-on : at < 64 → Comes r ts (Found (segment-at r at, record { next_segment = next_of r at }))
   comes-on l = let o = some-open r at ts w l in rw o.are (record { next_segment = next_of r at }, refl, o.on)
 
-  pub comes-end : 64 ≤ at → Comes r ts End
+  pub comes-end : 64 ≤ at → Comes r ts None
   comes-end l = rw (some_end r at ts w l) refl
 
 -- ---- a run of stores, read outside it and in it

@@ -1,12 +1,12 @@
 -- A range is cut out: the loop that asks, the answer, and the loop that puts in the parts that are moved up.
-use Rattle.std.specs.Prelude.{if◌then◌else◌}
+use Rattle.std.specs.Prelude.{Option, None, Some as Kept, option_to_list, if◌then◌else◌}
 use Prim.Native.Nat.{ℕ, suc, ◌+◌, ◌<◌, ◌≤◌}
 use mathlib.Core.Path.{◌≡◌, refl, sym, ap, ◌∙◌}
 use mathlib.Core.List.{List, [], ◌∷◌, ◌++◌, append_assoc, append-nil}
 use mathlib.Core.Bool.{Bool, true, false, not, ◌||◌}
 use native.Mathlib.Omega.{arith}
 use lib.ListN.{length, length-append}
-use borrow.Author.Tests.{leb-true, le-leb, lt-leb}
+use borrow.Author.Tests.{leb-true}
 use Rattle.definitions.specs.Tests.{◌<?◌, ◌≤?◌, ◌=?◌, bit, all, any, keep, each}
 use Rattle.definitions.specs.Segments.{in_order, rest, touched, span_whole}
 use Rattle.definitions.specs.Questions.{ask, accepted}
@@ -19,21 +19,20 @@ use Rattle.definitions.specs.declared.addr.GuestAddr.{GuestAddr}
 use Rattle.definitions.specs.declared.remapper.Segment.{Segment}
 use Rattle.definitions.specs.declared.answer.Refusal.{Refusal}
 use Rattle.definitions.specs.declared.answer.Refusal.TheVariants.{Repeated, NoSlot}
-use Rattle.definitions.specs.declared.answer.Answer.{Answer}
-use Rattle.definitions.specs.declared.answer.Answer.TheVariants.{Accepted, Refused}
+use Rattle.definitions.specs.Answers.{Answer}
+use Rattle.std.specs.Prelude.{Ok, Err}
 use Rattle.capability_engine.specs.declared.remapper.Remapper.{Remapper}
 use Rattle.capability_engine.specs.declared.remapper.Asked.{Asked}
-use Rattle.capability_engine.specs.declared.remapper.Left.{Left}
-use Rattle.capability_engine.specs.declared.remapper.Left.TheVariants.{Gone, Kept}
 use Rattle.capability_engine.specs.declared.remapper.Span.{Span}
 use Rattle.capability_engine.specs.declared.remapper.Span.TheVariants.{Host, Guest}
 use Rattle.capability_engine.specs.RemapHeld.{no_segment, Holds, Sound, Zip, behind, ahead}
 use Rattle.capability_engine.specs.RemapListing.{Some}
 use Rattle.capability_engine.specs.RemapAsking.{in_range, reach_of, left_of, rear_of, leaves, stays, moves, repeats, bad_for, last_of, none_asked, ask_step}
+use Rattle.capability_engine.specs.RemapSteps.{ZipOver, HasRoom, Told, Between}
 use Rattle.capability_engine.specs.RemapAnswers.{Does, on_host, on_span, on_cut, cut_to, Builds, can_cut}
-use Rattle.capability_engine.proofs.RemapPlaces.{zip-small, zip_start, zip_first, zip-holds, zip-free, zip-many, ZipOver}
-use Rattle.capability_engine.proofs.RemapParts.{or-none, not_so, or-false, listed, left-listed, left-many, left-good, rear-listed, rear-many, rear-good}
-use Rattle.capability_engine.proofs.RemapWalks.{segment-at, next_of, Open, some-start, some_end, some-open, some-less, some_next, last_below, below-snoc, Between, between}
+use Rattle.capability_engine.proofs.RemapPlaces.{zip-small, zip_start, zip-holds, zip-many}
+use Rattle.capability_engine.proofs.RemapParts.{or-none, not_so, or-false, left-listed, left-many, left-good, rear-listed, rear-many, rear-good}
+use Rattle.capability_engine.proofs.RemapWalks.{segment-at, next_of, Open, some-start, some_end, some-open, some-less, some_next, last_below, below-snoc, between}
 use Rattle.capability_engine.proofs.RemapLaws.{good-append}
 use Rattle.capability_engine.proofs.RemapCalls.{ask-on, refuses, accepts}
 
@@ -59,15 +58,6 @@ pub record Asks (r : Remapper) (p : Span) (k : Asked) (at : ℕ) (ss : List Segm
   pub moved-few : k.moved ≤ gone
   pub up : last_of (each (rear_of p) left) k.up ≡ last_of (each (rear_of p) ss) no_segment
   pub bad : (k.bad || any (bad_for p) left) ≡ any (bad_for p) ss
-
--- what it says in the end
-pub record Told (p : Span) (k : Asked) (ss : List Segment) : Type 0 where
-  pub stay : k.left ≡ length (each (left_of p) ss)
-  pub stay-few : k.left ≤ 64
-  pub moved : k.moved ≡ length (each (rear_of p) ss)
-  pub moved-few : k.moved ≤ 64
-  pub up : k.up ≡ last_of (each (rear_of p) ss) no_segment
-  pub bad : k.bad ≡ any (bad_for p) ss
 
 pub asks-start : (r : Remapper) (p : Span) (ss : List Segment) → Holds r ss → Asks r p none_asked r.head ss
 asks-start r p ss h =
@@ -197,41 +187,26 @@ module _ (self : Remapper) (ss : List Segment) (sound : Sound self ss) (k : Aske
 
 module _ (self : Remapper) (p : Span) (l : in_range p) (ss : List Segment) (sound : Sound self ss) (k : Asked) (w : Told p k ss)
     (x : Answer) (q : x ≡ can_cut k) where
-  pub cut-refused : (z : Refusal) → x ≡ Refused z → Does self (on_cut p ss) (cut_to p ss) (record { answer = x; remapper = self })
+  pub cut-refused : (z : Refusal) → x ≡ Err z → Does self (on_cut p ss) (cut_to p ss) self x
   cut-refused z y = refuses self _ _ x z y (answer-is self ss sound k p l w ∙ sym q ∙ y)
 
-  module _ (v : ℕ) (y : x ≡ Accepted v) where
+  module _ (v : ℕ) (y : x ≡ Ok v) where
     abbrev asked : List (Bool × Refusal)
     asked = (not k.bad, Repeated) ∷ (k.left + k.moved ≤? 64, NoSlot) ∷ []
 
-    yes-cut : accepted (ask asked (Accepted 0)) ≡ true
+    yes-cut : accepted (ask asked (Ok 0)) ≡ true
     unfolding can_cut
     yes-cut = ap accepted (sym q ∙ y)
 
     pub cut-clean : any (bad_for p) ss ≡ false
-    cut-clean = sym w.bad ∙ not_so k.bad (passed asked (Accepted 0) yes-cut).0.0
+    cut-clean = sym w.bad ∙ not_so k.bad (passed asked (Ok 0) yes-cut).0.0
 
     pub cut-room : k.left + k.moved ≤ 64
-    cut-room = leb-true (k.left + k.moved) 64 (passed asked (Accepted 0) yes-cut).0.1.0
+    cut-room = leb-true (k.left + k.moved) 64 (passed asked (Ok 0) yes-cut).0.1.0
 
-    pub cut-done : (out : Remapper) → Holds out (cut_to p ss) → Does self (on_cut p ss) (cut_to p ss) (record { answer = x; remapper = out })
+    pub cut-done : (out : Remapper) → Holds out (cut_to p ss) → Does self (on_cut p ss) (cut_to p ss) out (Ok 0)
     unfolding can_cut
-    cut-done out h =
-        let e = ask-on asked (Accepted 0) yes-cut in rw (q ∙ e) (accepts self _ _ out (answer-is self ss sound k p l w ∙ e) h)
-
--- as the code asks it
-module _ (k : Asked) where
-  pub can-repeated : k.bad ≡ true → Refused Repeated ≡ can_cut k
-  unfolding can_cut ask
-  can-repeated b = rw b
-
-  pub can-full : k.bad ≡ false → 64 < k.left + k.moved → Refused NoSlot ≡ can_cut k
-  unfolding can_cut ask
-  can-full b l = rw (b, lt-leb (k.left + k.moved) 64 l)
-
-  pub can-go : k.bad ≡ false → k.left + k.moved ≤ 64 → Accepted 0 ≡ can_cut k
-  unfolding can_cut ask
-  can-go b l = rw (b, le-leb (k.left + k.moved) 64 l)
+    cut-done out h = accepts self _ _ out (answer-is self ss sound k p l w ∙ ask-on asked (Ok 0) yes-cut) h
 
 -- ---- the moved parts go in, one behind the other
 
@@ -290,7 +265,7 @@ rears-good p (s ∷ ss) g = good-append (rear_of p s) (each (rear_of p) ss) (rw 
 -- ---- at most one is moved: it goes in behind the last with a lower host address
 
 module _ (self : Remapper) (p : Span) (l : in_range p) (ss : List Segment) (sound : Sound self ss) (k : Asked) (w : Told p k ss)
-    (x : Answer) (q : x ≡ can_cut k) (v : ℕ) (y : x ≡ Accepted v) where
+    (x : Answer) (q : x ≡ can_cut k) (v : ℕ) (y : x ≡ Ok v) where
   pub cut-builds : Builds p k.up ss
   cut-builds =
       record {
@@ -303,7 +278,7 @@ module _ (self : Remapper) (p : Span) (l : in_range p) (ss : List Segment) (soun
     in_place : b.low ++ (each (rear_of p) ss ++ b.high) ≡ cut_to p ss
     in_place = placed self p l ss sound (cut-clean self p l ss sound k w x q v y) k.up w.up r last b
 
-    pub cut-none : k.moved < 1 → Does self (on_cut p ss) (cut_to p ss) (record { answer = x; remapper = r })
+    pub cut-none : k.moved < 1 → Does self (on_cut p ss) (cut_to p ss) r (Ok 0)
     cut-none m =
         let e : each (rear_of p) ss ≡ [] = none_of (each (rear_of p) ss) (omega (arith, w.moved)) in
         let h : b.low ++ b.high ≡ cut_to p ss = sym (ap (λ t. b.low ++ (t ++ b.high)) e) ∙ in_place in
@@ -319,14 +294,11 @@ module _ (self : Remapper) (p : Span) (l : in_range p) (ss : List Segment) (soun
       pub one-room : length b.low + length b.high < 64
       one-room = omega (arith, w.stay, cut-room self p l ss sound k w x q v y, ap length b.are, length-append b.low b.high)
 
-      pub one_free : r.list.head < 64
-      one_free = zip-free r last _ b.low b.high b.zip one-room
-
-      pub one-head : r.head ≤ 64
-      one-head = zip_first r last _ b.low b.high b.zip
+      pub one-has : HasRoom r last
+      one-has = record { at = _; done = b.low; left = b.high; zip = b.zip; few = one-room }
 
       pub cut-one : (r2 : Remapper) (i : ℕ) → Zip r2 i (behind r.links r.head last) (b.low ++ (k.up ∷ [])) b.high
-          → Does self (on_cut p ss) (cut_to p ss) (record { answer = x; remapper = r2 })
+          → Does self (on_cut p ss) (cut_to p ss) r2 (Ok 0)
       cut-one r2 i z =
           let h : (b.low ++ (k.up ∷ [])) ++ b.high ≡ cut_to p ss
           = append_assoc b.low (k.up ∷ []) b.high ∙ sym (ap (λ t. b.low ++ (t ++ b.high)) one) ∙ in_place in
@@ -382,13 +354,13 @@ module _ (self r : Remapper) (p : Span) (n prev last from : ℕ) (ss : List Segm
     fines : (bad_for p (segment-at self from) ≡ false) × (any (bad_for p) here.more ≡ false)
     fines = or-false (bad_for p (segment-at self from)) (any (bad_for p) here.more) (sym (ap (any (bad_for p)) here.are) ∙ w.fine)
 
-    lefts-are : (v : Left) → leaves (reach_of p (segment-at self from)) (segment-at self from) ≡ v → each (left_of p) w.left ≡ listed v ++ each (left_of p) here.more
+    lefts-are : (v : Option Segment) → leaves (reach_of p (segment-at self from)) (segment-at self from) ≡ v → each (left_of p) w.left ≡ option_to_list v ++ each (left_of p) here.more
     lefts-are v e =
-        ap (each (left_of p)) here.are ∙ ap (λ t. t ++ each (left_of p) here.more) (left-listed p (segment-at self from) ∙ ap listed e)
+        ap (each (left_of p)) here.are ∙ ap (λ t. t ++ each (left_of p) here.more) (left-listed p (segment-at self from) ∙ ap option_to_list e)
 
-    pub lays-gone : leaves (reach_of p (segment-at self from)) (segment-at self from) ≡ Gone → Lays self r p n prev last (next_of self from) ss
+    pub lays-gone : leaves (reach_of p (segment-at self from)) (segment-at self from) ≡ None → Lays self r p n prev last (next_of self from) ss
     lays-gone e =
-        let h = lefts-are Gone e in
+        let h = lefts-are None e in
         record {
           left = here.more;
           rest = here.on;
@@ -408,11 +380,8 @@ module _ (self r : Remapper) (p : Span) (n prev last from : ℕ) (ss : List Segm
       pub lays-room : length w.done + 0 < 64
       lays-room = omega (arith, w.room, ap length (lefts-are (Kept t) e))
 
-      pub lays-free : r.list.head < 64
-      lays-free = zip-free r prev w.at w.done [] w.zip lays-room
-
-      pub lays-head : r.head ≤ 64
-      lays-head = zip_first r prev w.at w.done [] w.zip
+      pub lays-has : HasRoom r prev
+      lays-has = record { at = w.at; done = w.done; left = []; zip = w.zip; few = lays-room }
 
       pub lays-kept : (r2 : Remapper) (i last2 : ℕ) → last2 ≡ (if t.hpa.0 <? n then i else last)
           → ZipOver r2 (w.zip.passed ++ (i ∷ [])) i w.at (w.done ++ (t ∷ [])) [] → Lays self r2 p n i last2 (next_of self from) ss
@@ -504,11 +473,8 @@ module _ (self r : Remapper) (p : Span) (last from : ℕ) (goal : List Segment) 
       pub moves-room : length w.done + length w.after < 64
       moves-room = omega (arith, w.room, ap length this)
 
-      pub moves-free : r.list.head < 64
-      moves-free = zip-free r last w.at w.done w.after w.zip moves-room
-
-      pub moves-head : r.head ≤ 64
-      moves-head = zip_first r last w.at w.done w.after w.zip
+      pub moves-has : HasRoom r last
+      moves-has = record { at = w.at; done = w.done; left = w.after; zip = w.zip; few = moves-room }
 
       -- it goes in behind the last
       pub moves-on : (x : ℕ) (r2 : Remapper)

@@ -1,5 +1,5 @@
 -- unmap_gpa_range: what its first questions answer.
-use Prim.Native.Nat.{ℕ, ◌+◌, ◌^◌, ◌<◌, ◌≤◌}
+use Prim.Native.Nat.{ℕ, ◌+◌, ◌^◌, ◌<◌}
 use mathlib.Core.Path.{◌≡◌, sym, ap, ◌∙◌, refl}
 use mathlib.Core.List.{List, [], ◌∷◌}
 use mathlib.Core.Bool.{Bool, true, false, ◌||◌, true≢false}
@@ -13,15 +13,15 @@ use Rattle.definitions.specs.Questions.{ask, value_of, on_unmap_gpa}
 use Rattle.definitions.specs.declared.addr.GuestAddr.{GuestAddr}
 use Rattle.definitions.specs.declared.remapper.Segment.{Segment}
 use Rattle.definitions.specs.declared.answer.Refusal.TheVariants.{Overflow}
-use Rattle.definitions.specs.declared.answer.Answer.{Answer}
-use Rattle.definitions.specs.declared.answer.Answer.TheVariants.{Accepted, Refused}
+use Rattle.definitions.specs.Answers.{Answer}
+use Rattle.std.specs.Prelude.{Ok, Err}
 use Rattle.capability_engine.specs.declared.remapper.Remapper.{Remapper}
 use Rattle.capability_engine.specs.declared.remapper.Span.TheVariants.{Guest}
 use Rattle.capability_engine.specs.RemapHeld.{Holds, Sound}
 use Rattle.capability_engine.specs.RemapAnswers.{Does, ToCut, on_span, cut_to, can_start}
 use Rattle.capability_engine.proofs.RemapParts.{or-false}
 use Rattle.capability_engine.proofs.RemapWalks.{some-start, some_end, some-open}
-use Rattle.capability_engine.proofs.RemapCalls.{refuses, accepts, fits-yes, fits-no}
+use Rattle.capability_engine.proofs.RemapCalls.{refuses, accepts, fits-yes}
 
 -- ---- with nothing to do
 
@@ -54,24 +54,11 @@ gpa-is : (c : Compartment) (g : GuestAddr) (n : ℕ) → ((length c.segments =? 
 unfolding on_unmap_gpa on_span ask
 gpa-is c g n z a u = rw (z, fits-yes (g.0 + n) a, u)
 
-module _ (empty : Bool) (g : GuestAddr) (n : ℕ) (f : Bool) (q : f ≡ (empty || (n =? 0))) where
-  pub start_none : f ≡ true → Accepted 0 ≡ can_start empty g n
-  unfolding can_start
-  start_none e = rw (← q, e)
-
-  pub start-large : f ≡ false → 2 ^ 64 ≤ g.0 + n → Refused Overflow ≡ can_start empty g n
-  unfolding can_start ask
-  start-large e a = rw (← q, e, fits-no (g.0 + n) a)
-
-  pub start-go : f ≡ false → g.0 + n < 2 ^ 64 → Accepted 1 ≡ can_start empty g n
-  unfolding can_start ask
-  start-go e a = rw (← q, e, fits-yes (g.0 + n) a)
-
 -- what the start can answer
 data Start (empty : Bool) (g : GuestAddr) (n : ℕ) : Type 0 where
-  nothing : (empty || (n =? 0)) ≡ true → can_start empty g n ≡ Accepted 0 → Start empty g n
-  large : (empty || (n =? 0)) ≡ false → fits (g.0 + n) ≡ false → can_start empty g n ≡ Refused Overflow → Start empty g n
-  goes_on : (empty || (n =? 0)) ≡ false → g.0 + n < 2 ^ 64 → can_start empty g n ≡ Accepted 1 → Start empty g n
+  nothing : (empty || (n =? 0)) ≡ true → can_start empty g n ≡ Ok 0 → Start empty g n
+  large : (empty || (n =? 0)) ≡ false → fits (g.0 + n) ≡ false → can_start empty g n ≡ Err Overflow → Start empty g n
+  goes_on : (empty || (n =? 0)) ≡ false → g.0 + n < 2 ^ 64 → can_start empty g n ≡ Ok 1 → Start empty g n
 
 start? : (empty : Bool) (g : GuestAddr) (n : ℕ) → Start empty g n
 unfolding can_start ask
@@ -96,11 +83,11 @@ module _ (self : Remapper) (c : Compartment) (hold : Holds self c.segments) (g :
       go false p false r z = absurd (true≢false (sym z))
 
   -- it answers, and nothing changes
-  pub gpa-early : (v ≡ 1 → ⊥) → Does self (on_unmap_gpa c g n) (unmapped_gpa g n c.segments) (record { answer = x; remapper = self })
+  pub gpa-early : (v ≡ 1 → ⊥) → Does self (on_unmap_gpa c g n) (unmapped_gpa g n c.segments) self x
   unfolding on_unmap_gpa ask
   gpa-early z = go (start? (64 ≤? self.head) g n)
     where
-      go : Start (64 ≤? self.head) g n → Does self (on_unmap_gpa c g n) (unmapped_gpa g n c.segments) (record { answer = x; remapper = self })
+      go : Start (64 ≤? self.head) g n → Does self (on_unmap_gpa c g n) (unmapped_gpa g n c.segments) self x
       go (nothing p e) =
           let t = asked true p in rw (q ∙ e) (accepts self _ _ self (rw t) (rw (still t) hold))
       go (large p f e) = refuses self _ _ x Overflow (q ∙ e) (rw (asked false p, f))

@@ -1,11 +1,12 @@
 -- What a range leaves of one segment, by the tests that the code makes.
-use Rattle.std.specs.Prelude.{if◌then◌else◌}
+use Rattle.std.specs.Prelude.{None, Some, option_to_list, if◌then◌else◌}
 use Prim.Native.Nat.{ℕ, ◌+◌, ◌<◌, ◌≤◌}
 use mathlib.Core.Path.{◌≡◌, refl, sym, ap, ap₂, ◌∙◌}
-use mathlib.Core.List.{List, [], ◌∷◌}
+use mathlib.Core.List.{[], ◌∷◌}
 use mathlib.Core.Bool.{Bool, true, false, not, ◌&&◌, ◌||◌, true≢false}
 use native.Mathlib.Omega.{arith}
 use lib.ListN.{length}
+use mir.Val.{bool_byte}
 use borrow.Author.Tests.{lt-leb, leb-true, ltb-true, eqb-true}
 use Rattle.definitions.specs.Tests.{◌<?◌, ◌≤?◌, ◌=?◌, bit, host_up}
 use Rattle.definitions.specs.Segments.{host_end, span_end, front, rest, host_touched, touched, span_whole}
@@ -15,8 +16,6 @@ use Rattle.definitions.specs.declared.addr.GuestAddr.{GuestAddr}
 use Rattle.definitions.specs.declared.remapper.Segment.{Segment}
 use Rattle.capability_engine.specs.declared.remapper.Span.{Span}
 use Rattle.capability_engine.specs.declared.remapper.Span.TheVariants.{Host, Guest}
-use Rattle.capability_engine.specs.declared.remapper.Left.{Left}
-use Rattle.capability_engine.specs.declared.remapper.Left.TheVariants.{Gone, Kept}
 use Rattle.capability_engine.specs.declared.remapper.Reach.{Reach}
 use Rattle.capability_engine.specs.declared.remapper.Asked.{Asked}
 use Rattle.capability_engine.specs.RemapAsking.{reach_of, left_of, rear_of, leaves, stays, moves, repeats, bad_for, last_of, ask_step}
@@ -43,16 +42,12 @@ or-false false b e = (refl, e)
 
 -- ---- in its place
 
-abbrev pub listed : Left → List Segment
-listed Gone = []
-listed (Kept t) = t ∷ []
-
-pub left-listed : (p : Span) (s : Segment) → left_of p s ≡ listed (leaves (reach_of p s) s)
+pub left-listed : (p : Span) (s : Segment) → left_of p s ≡ option_to_list (leaves (reach_of p s) s)
 unfolding left_of left_in leaves
 left-listed p s = go (reach_of p s).touches (1 ≤? (reach_of p s).from)
   where
     go : (t b : Bool) → (if t then (if b then front (reach_of p s).from s ∷ [] else []) else s ∷ [])
-        ≡ listed (if t then (if b then Kept (front (reach_of p s).from s) else Gone) else Kept s)
+        ≡ option_to_list (if t then (if b then Some (front (reach_of p s).from s) else None) else Some s)
     go true true = refl
     go true false = refl
     go false b = refl
@@ -86,15 +81,15 @@ fits_in (Guest a e) s n t l =
     let w : span_whole a e s ≡ false = simp (lt-leb a.0 s.gpa.0 (omega arith)) in
     omega (arith, ltb-true a.0 (span_end s).0 b.0, single-end s (single a e s n t w))
 
-pub left-good : (p : Span) (s : Segment) → Good s → bad_for p s ≡ false → (t : Segment) → leaves (reach_of p s) s ≡ Kept t → Good t
+pub left-good : (p : Span) (s : Segment) → Good s → bad_for p s ≡ false → (t : Segment) → leaves (reach_of p s) s ≡ Some t → Good t
 unfolding leaves
 left-good p s g n t e = go (reach_of p s).touches refl (1 ≤? (reach_of p s).from) refl e
   where
-    same : (x y : Segment) → Kept x ≡ Kept y → x ≡ y
+    same : (x y : Segment) → Some x ≡ Some y → x ≡ y
     same x y q = cc
 
     go : (u : Bool) → (reach_of p s).touches ≡ u → (b : Bool) → (1 ≤? (reach_of p s).from) ≡ b
-        → (if u then (if b then Kept (front (reach_of p s).from s) else Gone) else Kept s) ≡ Kept t → Good t
+        → (if u then (if b then Some (front (reach_of p s).from s) else None) else Some s) ≡ Some t → Good t
     go true d true f q =
         let l : 1 ≤ (reach_of p s).from = leb-true 1 (reach_of p s).from f in
         rw (same (front (reach_of p s).from s) t q) at (front-good (reach_of p s).from s g l (fits_in p s n d l))
@@ -139,16 +134,15 @@ rear-good p s g m = rest-good (reach_of p s).to s g (rear-short (reach_of p s) (
 -- ---- the questions, of one segment more, as the code asks them
 
 asked-one : (p : Span) (k : Asked) (s : Segment) (r : Reach) → r ≡ reach_of p s → (o : Bool) → o ≡ (not r.touches || (1 ≤? r.from))
-    → (x : ℕ) → x ≡ bit o + k.left → (d : Bool) → d ≡ bad_for p s → (b : Bool) → b ≡ (k.bad || d) → (m : Bool) → m ≡ moves r s
+    → (x : ℕ) → x ≡ bit o + k.left → (b : Bool) → b ≡ (k.bad || bad_for p s) → (m : Bool) → m ≡ moves r s
     → (y : ℕ) → y ≡ bit m + k.moved → (u : Segment) → u ≡ (if m then rest r.to s else k.up) → record { left = x; moved = y; up = u; bad = b } ≡ ask_step p k s
 unfolding ask_step stays
-asked-one p k s r er o eo x ex d ed b eb m em y ey u eu =
+asked-one p k s r er o eo x ex b z m em y ey u eu =
     let i : x ≡ length (left_of p s) + k.left
     = ex ∙ ap (λ q. bit q + k.left) (eo ∙ ap stays er) ∙ ap (λ n. n + k.left) (sym (left-many p s)) in
     let moved : m ≡ moves (reach_of p s) s = em ∙ ap (λ q. moves q s) er in
     let j : y ≡ length (rear_of p s) + k.moved = ey ∙ ap (λ q. bit q + k.moved) moved ∙ ap (λ n. n + k.moved) (sym (rear-many p s)) in
     let v : u ≡ last_of (rear_of p s) k.up = eu ∙ ap₂ (λ q f. if q then rest f.to s else k.up) moved er ∙ sym (rear-last p s k.up) in
-    let z : b ≡ (k.bad || bad_for p s) = eb ∙ ap (λ q. k.bad || q) ed in
     λ t. record { left = i t; moved = j t; up = v t; bad = z t }
 
 -- of one that is not touched, and of one that is
@@ -163,11 +157,23 @@ unfolding moves
 asked-far p k s r er n =
     let t = not_so r.touches n in
     asked-one p k s r er true (sym (ap (λ q. not q || (1 ≤? r.from)) t)) (k.left + 1) (omega arith)
-    false (sym (far-fine p s (ap (λ q. q.touches) (sym er) ∙ t))) k.bad (sym (or-none k.bad))
+    k.bad (sym (or-none k.bad) ∙ ap (λ q. k.bad || q) (sym (far-fine p s (ap (λ q. q.touches) (sym er) ∙ t))))
     false (sym (ap (λ q. q && (r.to <? s.size)) t)) k.moved (omega arith) k.up refl
 
+pub bit-byte : (b : Bool) → bool_byte b ≡ bit b
+bit-byte true = refl
+bit-byte false = refl
+
 pub asked-near : (p : Span) (k : Asked) (s : Segment) (r : Reach) → r ≡ reach_of p s → not r.touches ≡ false
-    → (x : ℕ) → x ≡ bit (1 ≤? r.from) + k.left → (d : Bool) → d ≡ bad_for p s → (b : Bool) → b ≡ (k.bad || d) → (m : Bool) → m ≡ moves r s
-    → (y : ℕ) → y ≡ bit m + k.moved → (u : Segment) → u ≡ (if m then rest r.to s else k.up) → record { left = x; moved = y; up = u; bad = b } ≡ ask_step p k s
+    → (x : ℕ) → x ≡ bool_byte (1 ≤? r.from) → (b : Bool) → b ≡ (k.bad || bad_for p s) → (m : Bool) → m ≡ moves r s
+    → (y : ℕ) → y ≡ bit m + k.moved → (u : Segment) → u ≡ (if m then rest r.to s else k.up) → record { left = k.left + x; moved = y; up = u; bad = b } ≡ ask_step p k s
 asked-near p k s r er n x ex =
-    let t = not-no r.touches n in asked-one p k s r er (1 ≤? r.from) (sym (ap (λ q. not q || (1 ≤? r.from)) t)) x ex
+    let t = not-no r.touches n in
+    let e = ex ∙ bit-byte (1 ≤? r.from) in
+    asked-one p k s r er (1 ≤? r.from) (sym (ap (λ q. not q || (1 ≤? r.from)) t)) (k.left + x) (omega arith)
+
+pub bad_now : (b d : Bool) → b ≡ true → b ≡ (b || d)
+bad_now b d e = rw e
+
+pub bad_then : (b d x : Bool) → b ≡ false → x ≡ d → x ≡ (b || d)
+bad_then b d x e q = rw e q

@@ -2,19 +2,20 @@
 use Prim.Native.Nat.{ℕ, ◌+◌, ◌<◌, ◌≤◌}
 use mathlib.Core.Path.{◌≡◌, subst, ◌≡◌, refl, sym, ap, ◌∙◌}
 use mathlib.Core.List.{List, [], ◌∷◌, ◌++◌, append_assoc}
-use mathlib.Core.Bool.{true, false}
+use mathlib.Core.Bool.{Bool, true, false}
+use Rattle.std.specs.Prelude.{Option}
+use Rattle.free_list.specs.declared.FreeList.{FreeList}
 use native.Mathlib.Omega.{arith}
 use lib.ListN.{length, get_or, set, length-set, length-append}
 use lib.Seq.{get_or-set_same}
 use borrow.Author.Tests.{lt-ltb, ne_eqb}
 use Rattle.free_list.specs.Stack.{FreeListCall, allocate, free, has, freeable, after, step}
 use Rattle.free_list.specs.Grown.{Grown, Allocates, Frees, head_of}
-use Rattle.free_list.specs.declared.Allocated.{Allocated}
-use Rattle.free_list.specs.declared.Freed.{Freed}
 use Rattle.free_list.proofs.Laws.{after-snoc}
 use Rattle.definitions.proofs.SegmentLaws.{Good, AllGood}
 use Rattle.definitions.specs.declared.remapper.Segment.{Segment}
 use Rattle.capability_engine.specs.declared.remapper.Remapper.{Remapper}
+use Rattle.capability_engine.specs.RemapSteps.{ZipOver}
 use Rattle.capability_engine.specs.RemapHeld.{Chain, hit, occ, no_segment, segs_at, Owns, Holds, last_or, Zip, join_links, join_head, behind, ahead}
 use Rattle.capability_engine.proofs.RemapLaws.{hit_same, hit-apart, occ-append, last_or-snoc, chain-frame, chain-both, chain_same, chain_first, chain-behind, join-chain, join-frame, length-join, segs-append, segs-frame, length-segs, good-append, good-parts, append-parts, ahead-is, own-once, own_below, own-small, part-below, grown-rest}
 
@@ -181,10 +182,6 @@ zip-skip r prev at done us s w = go (opened r prev at done us s w)
           good_left = gq;
         }
 
--- a place with these slots before it
-abbrev pub ZipOver : Remapper → List ℕ → ℕ → ℕ → List Segment → List Segment → Type 0
-ZipOver r ps prev at done ts = (z : Zip r prev at done ts) × (z.passed ≡ ps)
-
 -- past one, which becomes another
 pub zip-put : (r : Remapper) (prev at : ℕ) (done us : List Segment) (s t : Segment) (w : Zip r prev at done (s ∷ us)) → Good t
     → ZipOver (record { segments = set r.segments at t; links = r.links; free = r.free; list = r.list; head = r.head })
@@ -231,16 +228,16 @@ none_has z [] o = refl
 none_has z (x ∷ s) o = rw (ne_eqb z x (hit-apart z x (omega arith))) (none_has z s (omega arith))
 
 pub zip-remove : (r : Remapper) (prev at : ℕ) (done us : List Segment) (s : Segment) (w : Zip r prev at done (s ∷ us))
-    → (free2 : List ℕ) (f : Freed) → ((n : ℕ) (calls : List FreeListCall) → Grown n r.free r.list calls → Frees n calls at r.free free2 r.list f)
-    → ZipOver (record { segments = r.segments; links = join_links r.links prev (get_or r.links at 0); free = free2; list = f.list; head = join_head r.head prev (get_or r.links at 0) })
+    → (free2 : List ℕ) (list2 : FreeList) (done2 : Bool) → ((n : ℕ) (calls : List FreeListCall) → Grown n r.free r.list calls → Frees n calls at r.free free2 r.list list2 done2)
+    → ZipOver (record { segments = r.segments; links = join_links r.links prev (get_or r.links at 0); free = free2; list = list2; head = join_head r.head prev (get_or r.links at 0) })
     w.passed prev (get_or r.links at 0) done us
-zip-remove r prev at done us s w free2 f spec = go (opened r prev at done us s w)
+zip-remove r prev at done us s w free2 list2 done2 spec = go (opened r prev at done us s w)
   where
     next : ℕ
     next = get_or r.links at 0
 
     go : Split r w.passed prev at done s us
-        → ZipOver (record { segments = r.segments; links = join_links r.links prev (get_or r.links at 0); free = free2; list = f.list; head = join_head r.head prev (get_or r.links at 0) })
+        → ZipOver (record { segments = r.segments; links = join_links r.links prev (get_or r.links at 0); free = free2; list = list2; head = join_head r.head prev (get_or r.links at 0) })
         w.passed prev (get_or r.links at 0) done us
     go (split qs o l c rp rs rq gp gs gq) =
         let ps : List ℕ = w.passed in
@@ -266,7 +263,7 @@ zip-remove r prev at done us s w free2 f spec = go (opened r prev at done us s w
               calls = o.calls ++ (free at ∷ []);
               grown = d.grown;
               parts = λ z. omega (arith, o.parts z, occ-append z ps (at ∷ qs), occ-append z ps qs, ap (occ z) a);
-              room = omega (arith, o.room, length-append ps (at ∷ qs), length-append ps qs, grown-rest 64 free2 f.list _ d.grown, grown-rest 64 r.free r.list o.calls o.grown, ap length a);
+              room = omega (arith, o.room, length-append ps (at ∷ qs), length-append ps qs, grown-rest 64 free2 list2 _ d.grown, grown-rest 64 r.free r.list o.calls o.grown, ap length a);
             };
             last = l;
             here = lc;
@@ -293,10 +290,10 @@ zip-free r prev at done ts w room = go (after 64 w.owns.calls) refl
         omega arith
 
 pub zip_in : (r : Remapper) (prev at : ℕ) (done ts : List Segment) (s : Segment) (w : Zip r prev at done ts) → length done + length ts < 64 → Good s
-    → (free2 : List ℕ) (f : Allocated) → ((n : ℕ) (calls : List FreeListCall) → Grown n r.free r.list calls → Allocates n calls r.free free2 r.list f)
-    → ZipOver (record { segments = set r.segments r.list.head s; links = join_links (set r.links r.list.head at) prev r.list.head; free = free2; list = f.list; head = join_head r.head prev r.list.head })
+    → (free2 : List ℕ) (list2 : FreeList) (slot2 : Option ℕ) → ((n : ℕ) (calls : List FreeListCall) → Grown n r.free r.list calls → Allocates n calls r.free free2 r.list list2 slot2)
+    → ZipOver (record { segments = set r.segments r.list.head s; links = join_links (set r.links r.list.head at) prev r.list.head; free = free2; list = list2; head = join_head r.head prev r.list.head })
     (w.passed ++ (r.list.head ∷ [])) r.list.head at (done ++ (s ∷ [])) ts
-zip_in r prev at done ts s w room gs free2 f spec = go (after 64 o.calls) refl
+zip_in r prev at done ts s w room gs free2 list2 slot2 spec = go (after 64 o.calls) refl
   where
     o : Owns r (w.passed ++ w.left)
     o = w.owns
@@ -305,7 +302,7 @@ zip_in r prev at done ts s w room gs free2 f spec = go (after 64 o.calls) refl
     x = r.list.head
 
     go : (fs : List ℕ) → after 64 o.calls ≡ fs
-        → ZipOver (record { segments = set r.segments r.list.head s; links = join_links (set r.links r.list.head at) prev r.list.head; free = free2; list = f.list; head = join_head r.head prev r.list.head })
+        → ZipOver (record { segments = set r.segments r.list.head s; links = join_links (set r.links r.list.head at) prev r.list.head; free = free2; list = list2; head = join_head r.head prev r.list.head })
         (w.passed ++ (r.list.head ∷ [])) r.list.head at (done ++ (s ∷ [])) ts
     go [] e = absurd (omega (arith, o.room, grown-rest 64 r.free r.list o.calls o.grown, ap length e, zip_length r prev at done ts w, length-append w.passed w.left))
     go (y ∷ fs) e =
@@ -343,7 +340,7 @@ zip_in r prev at done ts s w room gs free2 f spec = go (after 64 o.calls) refl
               calls = o.calls ++ (allocate ∷ []);
               grown = d.grown;
               parts = λ z. omega (arith, o.parts z, occ-append z ps qs, occ-append z ps (x ∷ qs), ap (occ z) a, ap (occ z) e2);
-              room = omega (arith, o.room, length-append ps qs, length-append ps (x ∷ qs), grown-rest 64 free2 f.list _ d.grown, grown-rest 64 r.free r.list o.calls o.grown, ap length a, ap length e2);
+              room = omega (arith, o.room, length-append ps qs, length-append ps (x ∷ qs), grown-rest 64 free2 list2 _ d.grown, grown-rest 64 r.free r.list o.calls o.grown, ap length a, ap length e2);
             });
             last = sym (last_or-snoc 64 ps x);
             here = rw w.last (join-frame L at ps qs 64 x below (λ z. omega (arith, once z)) (chain-frame r.links at qs 64 x at (omega (arith, once x, hit_same x)) w.here));
@@ -357,10 +354,3 @@ zip_in r prev at done ts s w room gs free2 f spec = go (after 64 o.calls) refl
       where
         free-below : (v : ℕ) (vs : List ℕ) → after 64 o.calls ≡ v ∷ vs → v < 64
         free-below v vs q = part-below (w.passed ++ w.left) (after 64 o.calls) v (o.parts v) (rw q (omega (arith, hit_same v)))
-
-pub zip-insert : (r : Remapper) (prev at : ℕ) (done ts : List Segment) (s : Segment) → Zip r prev at done ts → length done + length ts < 64 → Good s
-    → (free2 : List ℕ) (f : Allocated) → ((n : ℕ) (calls : List FreeListCall) → Grown n r.free r.list calls → Allocates n calls r.free free2 r.list f)
-    → Holds (record { segments = set r.segments r.list.head s; links = join_links (set r.links r.list.head at) prev r.list.head; free = free2; list = f.list; head = join_head r.head prev r.list.head })
-    (done ++ (s ∷ ts))
-zip-insert r prev at done ts s w room gs free2 f spec =
-    rw (append_assoc done (s ∷ []) ts) at (zip-holds _ _ at (done ++ (s ∷ [])) ts (zip_in r prev at done ts s w room gs free2 f spec).0)

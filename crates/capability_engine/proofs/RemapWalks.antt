@@ -1,5 +1,5 @@
 -- The loops: what each keeps, how it starts, goes on and ends.
-use Rattle.std.specs.Prelude.{if◌then◌else◌}
+use Rattle.std.specs.Prelude.{None, Some as Kept, option_to_list, if◌then◌else◌}
 use Prim.Native.Nat.{ℕ, suc, ◌+◌, ◌<◌, ◌≤◌}
 use mathlib.Core.Path.{◌≡◌, refl, sym, ap, ◌∙◌, subst}
 use mathlib.Core.List.{List, [], ◌∷◌, ◌++◌, append_assoc, append-nil}
@@ -7,7 +7,6 @@ use mathlib.Core.Bool.{Bool, true, false}
 use native.Mathlib.Omega.{arith}
 use lib.ListN.{length, get_or, length-append}
 use borrow.Author.Tests.{le-leb, lt-leb, ltb-true, ltb-false, le-ltb}
-use Rattle.free_list.specs.declared.FreeList.{FreeList}
 use Rattle.definitions.specs.Tests.{◌<?◌, any, each}
 use Rattle.definitions.specs.Segments.{touched, place}
 use Rattle.definitions.proofs.SegmentLaws.{Good}
@@ -16,35 +15,18 @@ use Rattle.definitions.specs.declared.addr.GuestAddr.{GuestAddr}
 use Rattle.definitions.specs.declared.remapper.Segment.{Segment}
 use Rattle.capability_engine.specs.declared.remapper.Remapper.{Remapper}
 use Rattle.capability_engine.specs.declared.remapper.Span.{Span}
-use Rattle.capability_engine.specs.declared.remapper.Left.TheVariants.{Gone, Kept}
-use Rattle.capability_engine.specs.RemapHeld.{Chain, no_segment, segs_at, Holds, last_or, Zip, behind, ahead}
+use Rattle.capability_engine.specs.RemapHeld.{no_segment, Holds, last_or, Zip, behind, ahead}
 use Rattle.capability_engine.specs.RemapAsking.{reach_of, left_of, leaves, bad_for}
+use Rattle.capability_engine.specs.RemapSteps.{ZipOver, HasRoom, PutsIn, Placed, Between}
 use Rattle.capability_engine.specs.RemapListing.{Some}
-use Rattle.capability_engine.proofs.RemapParts.{or-false, listed, left-listed, left-good}
-use Rattle.capability_engine.proofs.RemapPlaces.{zip-at, zip_start, zip-ahead, zip_end, zip-open, zip-skip, zip-as, zip-many, zip-back, ZipOver}
+use Rattle.capability_engine.proofs.RemapParts.{or-false, left-listed, left-good}
+use Rattle.capability_engine.proofs.RemapPlaces.{zip-at, zip_start, zip-ahead, zip_end, zip-open, zip-skip, zip-as, zip-many, zip-back, zip-holds}
 
 abbrev pub segment-at : Remapper → ℕ → Segment
 segment-at r at = get_or r.segments at no_segment
 
 abbrev pub next_of : Remapper → ℕ → ℕ
 next_of r at = get_or r.links at 0
-
--- a remapper with another free list and another head
-abbrev pub headed : Remapper → FreeList → ℕ → Remapper
-headed r list head = record { segments = r.segments; links = r.links; free = r.free; list = list; head = head }
-
--- an empty one has no head
-pub empty-head : (r : Remapper) → Holds r [] → Holds (headed r r.list 64) []
-empty-head r h = subst (λ i. Holds (headed r r.list i) []) (go h.slots h.owns.chain h.read) h
-  where
-    go : (q : List ℕ) → Chain r.links r.head q 64 → segs_at r.segments q ≡ [] → r.head ≡ 64
-    go [] c e = c
-    go (x ∷ q) c e = absurd (omega (arith, ap length e))
-
--- nothing lies ahead of none
-ahead_none : (links : List ℕ) → ahead links 64 ≡ 0
-unfolding ahead
-ahead_none links = refl
 
 -- ---- a walk that only reads: ts is left from slot at on
 
@@ -85,10 +67,6 @@ module _ (r : Remapper) (at : ℕ) (ts : List Segment) (w : Some r at ts) where
   -- a link names a slot, or none
   pub some_next : at < 64 → next_of r at ≤ 64
   some_next l = let o = some-open l in zip-at r o.on.prev (next_of r at) o.on.done o.more o.on.zip
-
-  pub some-last : at < 64 → ahead r.links 64 < ahead r.links at
-  some-last l =
-      omega (arith, ahead_none r.links, zip-ahead r w.prev at w.done ts w.zip, ap length (some-open l).are)
 
 -- ---- is one touched?
 
@@ -140,55 +118,48 @@ module _ (r : Remapper) (s : Segment) (prev at : ℕ) (ss : List Segment) (w : P
         count = omega (arith, w.count, ap length o.1, length-append w.done (t ∷ []));
       }
 
+  pub puts-next : at < 64 → next_of r at ≤ 64
+  puts-next l = some_next r at w.left (record { prev = prev; done = w.done; zip = w.zip }) l
+
   -- here
-  pub puts-here : at < 64 → s.hpa.0 < (segment-at r at).hpa.0 → (w.done ++ (s ∷ w.left)) ≡ place s ss
+  pub puts-here : at < 64 → s.hpa.0 < (segment-at r at).hpa.0 → Placed r s prev ss
   unfolding place
   puts-here l h =
       let o = zip-open r prev at w.done w.left w.zip l in
-      sym (ap (λ q. w.done ++ place s q) o.1 ∙ (rw (lt-leb (segment-at r at).hpa.0 s.hpa.0 h)) ∙ ap (λ q. w.done ++ (s ∷ q)) (sym o.1))
-      ∙ w.goal
+      record {
+        at = at;
+        done = w.done;
+        left = w.left;
+        zip = w.zip;
+        goal = sym (ap (λ q. w.done ++ place s q) o.1 ∙ (rw (lt-leb (segment-at r at).hpa.0 s.hpa.0 h)) ∙ ap (λ q. w.done ++ (s ∷ q)) (sym o.1))
+            ∙ w.goal;
+        count = w.count;
+      }
 
-  pub puts-end : 64 ≤ at → (w.done ++ (s ∷ w.left)) ≡ place s ss
+  pub puts-end : 64 ≤ at → Placed r s prev ss
   unfolding place
   puts-end l =
       let e = zip_end r prev at w.done w.left w.zip l in
-      ap (λ q. w.done ++ (s ∷ q)) e ∙ sym (ap (λ q. w.done ++ place s q) e) ∙ w.goal
-
--- the walk to that place: on is at, or 64 once the place is found
-pub record Seeks (r : Remapper) (s : Segment) (prev at on : ℕ) (ss : List Segment) : Type 0 where
-  pub puts : Puts r s prev at ss
-  pub same : on < 64 → on ≡ at
-  pub here : 64 ≤ on → (puts.done ++ (s ∷ puts.left)) ≡ place s ss
-
-seeks-from : (r : Remapper) (s : Segment) (prev at : ℕ) (ss : List Segment) → Puts r s prev at ss → Seeks r s prev at at ss
-seeks-from r s prev at ss w = record { puts = w; same = λ l. refl; here = λ l. puts-end r s prev at ss w l }
-
-pub seeks-start : (r : Remapper) (s : Segment) (ss : List Segment) → Holds r ss → Seeks r s 64 r.head r.head ss
-seeks-start r s ss h = seeks-from r s 64 r.head ss (puts-start r s ss h)
-
-module _ (r : Remapper) (s : Segment) (prev at on : ℕ) (ss : List Segment) (w : Seeks r s prev at on ss) (l : on < 64) where
-  spot : Puts r s prev on ss
-  spot = subst (λ i. Puts r s prev i ss) (sym (w.same l)) w.puts
-
-  pub seeks-on : (segment-at r on).hpa.0 ≤ s.hpa.0 → Seeks r s on (next_of r on) (next_of r on) ss
-  seeks-on h = seeks-from r s on (next_of r on) ss (puts-on r s prev on ss spot l h)
-
-  pub seeks-stop : s.hpa.0 < (segment-at r on).hpa.0 → Seeks r s prev at 64 ss
-  seeks-stop h =
       record {
-        puts = w.puts;
-        same = λ q. absurd (omega arith);
-        here = λ q. puts-here r s prev at ss w.puts (subst (λ i. i < 64) (w.same l) l) (subst (λ i. s.hpa.0 < (segment-at r i).hpa.0) (w.same l) h);
+        at = at;
+        done = w.done;
+        left = w.left;
+        zip = w.zip;
+        goal = ap (λ q. w.done ++ (s ∷ q)) e ∙ sym (ap (λ q. w.done ++ place s q) e) ∙ w.goal;
+        count = w.count;
       }
 
-  pub seeks-less : ahead r.links (next_of r on) < ahead r.links on
-  seeks-less = puts-less r s prev on ss spot l
+-- the new one goes in there
+module _ (r : Remapper) (s : Segment) (prev : ℕ) (ss : List Segment) (w : Placed r s prev ss) (u : r.list.count ≡ length ss) (few : r.list.count < 64) where
+  placed-few : length w.done + length w.left < 64
+  placed-few = omega (arith, w.count)
 
-  pub seeks-next : next_of r on ≤ 64
-  seeks-next = let p = spot in some_next r on p.left (record { prev = prev; done = p.done; zip = p.zip }) l
+  pub placed-room : HasRoom r prev
+  placed-room = record { at = w.at; done = w.done; left = w.left; zip = w.zip; few = placed-few }
 
-  pub seeks-last : ahead r.links 64 < ahead r.links on
-  seeks-last = let p = spot in some-last r on p.left (record { prev = prev; done = p.done; zip = p.zip }) l
+  pub placed-holds : (out : Remapper) (x : ℕ) → PutsIn r s prev out x → Holds out (place s ss)
+  placed-holds out x f =
+      rw (append_assoc w.done (s ∷ []) w.left ∙ w.goal) at (zip-holds out x w.at (w.done ++ (s ∷ [])) w.left (f w.at w.done w.left w.zip placed-few).0)
 
 -- ---- each becomes what stays of it in its place, and the last slot below a host address is noted
 
@@ -276,20 +247,11 @@ pub record Cut (r : Remapper) (p : Span) (n prev last at : ℕ) (ss : List Segme
   pub good : Good (segment-at r at)
   pub ok : bad_for p (segment-at r at) ≡ false
   pub ok-more : any (bad_for p) more ≡ false
-  pub goal : w.done ++ (listed (leaves (reach_of p (segment-at r at)) (segment-at r at)) ++ each (left_of p) more) ≡ each (left_of p) ss
+  pub goal : w.done ++ (option_to_list (leaves (reach_of p (segment-at r at)) (segment-at r at)) ++ each (left_of p) more) ≡ each (left_of p) ss
 
 pub trims-start : (r : Remapper) (p : Span) (n : ℕ) (ss : List Segment) → Holds r ss → any (bad_for p) ss ≡ false → Trims r p n 64 64 r.head ss
 unfolding zip_start
 trims-start r p n ss h ok = record { done = []; left = ss; zip = zip_start r ss h; goal = refl; ok = ok; noted = refl }
-
--- a place in a list in order, where the segments below n end
-pub record Between (r : Remapper) (n last : ℕ) (ts : List Segment) : Type 0 where
-  pub low : List Segment
-  pub high : List Segment
-  pub zip : Zip r last (behind r.links r.head last) low high
-  pub are : ts ≡ low ++ high
-  pub below : Every (λ t. t.hpa.0 < n) low
-  pub above : Every (λ t. n ≤ t.hpa.0) high
 
 pub between : (r : Remapper) (n prev last at : ℕ) (done ts : List Segment) (w : Zip r prev at done ts) → ts ≡ [] → last ≡ last_below n w.passed done 64 → Rising done
     → Between r n last done
@@ -345,7 +307,7 @@ module _ (r : Remapper) (p : Span) (n prev last at : ℕ) (ss : List Segment) (w
       let q : w.done ≡ each (left_of p) ss = sym (append-nil w.done) ∙ sym (ap (λ v. w.done ++ each (left_of p) v) e) ∙ w.goal in
       rw q at (between r n prev last at w.done w.left w.zip e w.noted (rw q o))
 
-  pub trims-gone : (r2 : Remapper) (l : at < 64) → leaves (reach_of p (segment-at r at)) (segment-at r at) ≡ Gone
+  pub trims-gone : (r2 : Remapper) (l : at < 64) → leaves (reach_of p (segment-at r at)) (segment-at r at) ≡ None
       → ZipOver r2 (trims-cut l).zip.passed prev (next_of r at) w.done (trims-cut l).more → Trims r2 p n prev last (next_of r at) ss
   trims-gone r2 l e z =
       let c = trims-cut l in
@@ -353,7 +315,7 @@ module _ (r : Remapper) (p : Span) (n prev last at : ℕ) (ss : List Segment) (w
         done = w.done;
         left = c.more;
         zip = z.0;
-        goal = sym (ap (λ v. w.done ++ (listed v ++ each (left_of p) c.more)) e) ∙ c.goal;
+        goal = sym (ap (λ v. w.done ++ (option_to_list v ++ each (left_of p) c.more)) e) ∙ c.goal;
         ok = c.ok-more;
         noted = w.noted ∙ ap (λ v. last_below n v w.done 64) (sym (z.1 ∙ c.same));
       }
@@ -368,7 +330,7 @@ module _ (r : Remapper) (p : Span) (n prev last at : ℕ) (ss : List Segment) (w
         done = w.done ++ (t ∷ []);
         left = c.more;
         zip = z.0;
-        goal = append_assoc w.done (t ∷ []) (each (left_of p) c.more) ∙ sym (ap (λ v. w.done ++ (listed v ++ each (left_of p) c.more)) e) ∙ c.goal;
+        goal = append_assoc w.done (t ∷ []) (each (left_of p) c.more) ∙ sym (ap (λ v. w.done ++ (option_to_list v ++ each (left_of p) c.more)) e) ∙ c.goal;
         ok = c.ok-more;
         noted = q ∙ ap (λ v. if t.hpa.0 <? n then at else v) w.noted ∙ sym (below-snoc n w.zip.passed w.done 64 at t m)
             ∙ ap (λ v. last_below n v (w.done ++ (t ∷ [])) 64) (sym (z.1 ∙ ap (λ v. v ++ (at ∷ [])) c.same));

@@ -1,21 +1,21 @@
 -- A piece of a script, step by step.
 use Prim.Native.Nat.{ℕ, ◌+◌, ◌-◌, ◌*◌, ◌<◌, ◌≤◌, min}
-use mathlib.Core.Path.{◌≡◌, refl, sym, ap, ◌∙◌}
+use mathlib.Core.Path.{◌≡◌, refl, sym, ap, subst, ◌∙◌}
 use mathlib.Core.Bool.{Bool, true, false, true≢false, not}
 use mathlib.Core.List.{List, [], ◌∷◌, ◌++◌, append_assoc}
 use native.Mathlib.Omega.{arith}
 use native.Mathlib.Decide.{dec_lt}
-use lib.ListN.{length, take, drop, get_or, set}
-use lib.Seq.{set-get_or, sets, drop-drop, drop-append_seam, take_all}
+use lib.ListN.{length, take, drop, get_or}
+use lib.Seq.{sets, drop-drop, drop-append_seam, take_all}
 use borrow.Author.Tests.{lt-ltb, le-ltb}
 use Rattle.definitions.specs.Tests.{◌<?◌, bit}
 use Rattle.definitions.specs.Questions.{ask}
 use Rattle.definitions.specs.Reckoning.{compartment_of}
-use Rattle.definitions.specs.Calls.{State, compartment, allowance, others, together, answer_in, answer, next, after}
+use Rattle.definitions.specs.Calls.{State, compartment, answer_in, answer, next, after}
 use Rattle.definitions.specs.Script.{Line, call, malformed, line_of, answer_line, printed, left, mapping_lines, output_from, whole_lines}
 use Rattle.definitions.specs.declared.answer.Refusal.TheVariants.{Malformed}
-use Rattle.definitions.specs.declared.answer.Answer.{Answer}
-use Rattle.definitions.specs.declared.answer.Answer.TheVariants.{Refused}
+use Rattle.definitions.specs.Answers.{Answer}
+use Rattle.std.specs.Prelude.{Err}
 use Rattle.definitions.specs.declared.call.Call.{Call}
 use Rattle.definitions.specs.declared.call.Call.TheVariants.{Mappings}
 use Rattle.definitions.specs.declared.call.Call.TheVariants as spoken
@@ -23,26 +23,20 @@ use Rattle.definitions.proofs.Reckoned.{length-after, after-snoc}
 use Rattle.lines.specs.Lines.{lines_with}
 use Rattle.lines.proofs.Written.{length-answer}
 use Rattle.capability_engine.specs.declared.region.RegionTracker.{RegionTracker}
-use Rattle.capability_engine.specs.declared.region.Changed.{Changed as RegionChanged}
-use Rattle.capability_engine.specs.declared.region.Allowed.{Allowed}
 use Rattle.capability_engine.specs.declared.remapper.Remapper.{Remapper}
-use Rattle.capability_engine.specs.declared.remapper.Changed.{Changed as SegmentChanged}
 use Rattle.capability_engine.specs.declared.compartments.Tables.{Tables}
 use Rattle.capability_engine.specs.declared.script.Progress.{Progress}
 use Rattle.capability_engine.specs.declared.script.Script.{Script}
-use Rattle.capability_engine.specs.declared.script.Heard.{Heard}
+use Rattle.capability_engine.specs.declared.script.Task.{Task}
 use Rattle.capability_engine.specs.declared.script.Task.TheVariants.{Tell, Regions, Segments, Print, Nothing, Allow}
-use Rattle.capability_engine.specs.PoolOwn.{heap}
-use Rattle.capability_engine.specs.RegionAsks.{Allotted}
-use Rattle.capability_engine.specs.RemapHeld.{IsHeld, IsSound}
-use Rattle.capability_engine.specs.CompartmentGrown.{allowances_of, trackers_of, Grown, IsGrown, Sized}
-use Rattle.capability_engine.specs.CompartmentSteps.{on_regions, on_segments, no_tracker, OnRegions, OnSegments, OnAllow}
+use Rattle.capability_engine.specs.CompartmentGrown.{Grown, IsGrown, Sized, Answers}
+use Rattle.capability_engine.specs.CompartmentSteps.{no_tracker}
 use Rattle.capability_engine.specs.ScriptFeed.{owed, due, comes, Feeds}
-use Rattle.capability_engine.specs.ScriptSteps.{task_prints, task_leaves, Hears, bytes_of, Adds, told, Prints, lines_on, Shows, started, Goes}
+use Rattle.capability_engine.specs.ScriptSteps.{task_prints, task_leaves, moved, Hears, bytes_of, Adds, told, Prints, lines_on, Shows, Performs, started, Goes}
 use Rattle.capability_engine.proofs.PoolOwns.{bit_le}
 use Rattle.capability_engine.proofs.CompartmentLaws.{holds-long}
 use Rattle.capability_engine.proofs.CompartmentCalls.{get_d_any}
-use Rattle.capability_engine.proofs.CompartmentFacts.{allotted, held, sound, whole, stored_is, table, regions-grown, allow-grown, pool-allowed, segments-answer, segments-grown}
+use Rattle.capability_engine.proofs.CompartmentFacts.{held, whole, stored_is, table}
 use Rattle.capability_engine.proofs.ScriptPrints.{stopped, adds_none, adds_one, adds-more, adds-length}
 use Rattle.lines.proofs.Putting.{none-whole}
 
@@ -97,7 +91,7 @@ short-room s room (l ∷ ls) h = go (line_of l)
   where
     go : (x : Line) → whole_lines room (printed s x ++ output_from (left s x) ls) ≡ []
     go (call c) = none-whole room (answer_line (answer s c)) (mapping_lines s c ++ output_from (next s c) ls) (omega (arith, length-answer (answer s c)))
-    go malformed = none-whole room (answer_line (Refused Malformed)) (output_from s ls) (omega (arith, length-answer (Refused Malformed)))
+    go malformed = none-whole room (answer_line (Err Malformed)) (output_from s ls) (omega (arith, length-answer (Err Malformed)))
 
 -- ---- it begins
 
@@ -220,155 +214,119 @@ module _ (calls : List Call) (c : Script) (input out words next links gens : Lis
       (short-room (after g.later) (length now - p.at) (lines_with (take p.len line) (drop p.used input ++ more)) (omega arith)))
       (λ q room z. omega (arith, going-room, (g.idle q room z).1))
 
-  -- bytes are heard
-  module _ (k : 8 ≤ p.compartment) (f : p.full ≡ false) (line' : List ℕ) (h : Heard) (i : Hears line line' p.len input p.used h) where
-    abbrev pub moved : Progress
-    moved = record {
-      len = h.len;
-      compartment = p.compartment;
-      from = p.from;
-      used = h.used;
-      at = p.at;
-      lines = p.lines;
-      full = p.full;
+  -- bytes are heard, and what they ask for is done
+  module _ (k : 8 ≤ p.compartment) (f : p.full ≡ false) (line' : List ℕ) (q : Progress) (task : Task) (i : Hears line line' p input q task)
+      (words' next' links' gens' : List ℕ) (t' : Tables) (now' : List ℕ) (r : Progress)
+      (d : Performs g.later task now q words' next' links' gens' t' now' r) where
+    added : Adds d.lines now now' p r
+    added =
+        let a : Adds d.lines now now' (moved p q.len q.used) r = subst (λ (x : Progress). Adds d.lines now now' x r) i.same d.adds in
+        record { text = a.text; end = a.end; many = a.many; counted = a.counted; fits = a.fits }
+
+    open_still : r.full ≡ false
+    open_still = d.full ∙ ap (λ (x : Progress). x.full) i.same ∙ f
+
+    pub going-performs : Going calls c input out words' next' links' gens' t' line' now' r
+    unfolding due comes
+    going-performs =
+        let s₀ : State = after g.later in
+        let s₁ : State = task_leaves s₀ task in
+        let rest : List ℕ → List (List ℕ) = λ more. output_from s₁ (lines_with (take q.len line') (drop q.used input ++ more)) in
+        step words' next' links' gens' t' d.later line' now' r d.lines d.grown added
+        (λ more. rw (owed_none s₀ p.compartment p.from k, d.len, d.used, d.left)
+        (i.prints s₀ more ∙ ap (λ (x : List (List ℕ)). x ++ rest more) (rw d.left at d.prints) ∙ append_assoc d.lines (owed s₁ r.compartment r.from) (rest more)))
+        (λ more. rw (d.len, d.used, d.left) (i.leaves (after g.later) more))
+        i.size (omega (arith, i.short, d.len)) (omega (arith, i.taken, d.used)) d.nobody (λ z. absurd (true≢false (sym z ∙ open_still)))
+        (λ z room e. omega (arith, d.used, i.ahead))
+
+    pub less-performs : to_do (length input) r < to_do (length input) p
+    unfolding to_do
+    less-performs = omega (arith, d.used, i.ahead, i.taken, bit_le (r.compartment <? 8), bit_le (not r.full))
+
+-- ---- what a line asks for is done
+
+module _ (calls : List Call) (out words next links gens : List ℕ) (t : Tables) (p : Progress) where
+  -- nothing is written
+  module _ (g : Grown words next links gens t calls) (h : p.lines ≤ p.at) (k : 8 ≤ p.compartment) (b : p.compartment ≤ 8) where
+    -- the line goes on in the next piece
+    pub performs-none : Performs calls Nothing out p words next links gens t out p
+    unfolding task_prints task_leaves
+    performs-none = record {
+      later = calls;
+      grown = g;
+      lines = [];
+      adds = adds_none out p p refl refl h;
+      prints = sym (owed_none (after calls) p.compartment p.from k);
+      left = refl;
+      len = refl;
+      used = refl;
+      full = refl;
+      nobody = b;
     }
 
-    -- what the task prints is written, or owed
-    heard : (words' next' links' gens' : List ℕ) (t' : Tables) (later : List Call) (now' : List ℕ) (r : Progress) (ls : List (List ℕ))
-        → Grown words' next' links' gens' t' later → Adds ls now now' p r
-        → task_prints (after g.later) h.task ≡ ls ++ owed (after later) r.compartment r.from → after later ≡ task_leaves (after g.later) h.task
-        → r.len ≡ h.len → r.used ≡ h.used → r.full ≡ false → r.compartment ≤ 8
-        → Going calls c input out words' next' links' gens' t' line' now' r
-    unfolding due comes
-    heard words' next' links' gens' t' later now' r ls grown adds e s len used full nobody =
-        let s₀ : State = after g.later in
-        let s₁ : State = task_leaves s₀ h.task in
-        let rest : List ℕ → List (List ℕ) = λ more. output_from s₁ (lines_with (take h.len line') (drop h.used input ++ more)) in
-        step words' next' links' gens' t' later line' now' r ls grown adds
-        (λ more. rw (owed_none s₀ p.compartment p.from k, len, used, s)
-        (i.prints s₀ more ∙ ap (λ (x : List (List ℕ)). x ++ rest more) (rw s at e) ∙ append_assoc ls (owed s₁ r.compartment r.from) (rest more)))
-        (λ more. rw (len, used, s) (i.leaves (after g.later) more))
-        i.size (omega (arith, i.short)) (omega (arith, i.taken)) nobody (λ q. absurd (true≢false (sym q ∙ full)))
-        (λ q room z. omega (arith, used, i.ahead))
-
-    -- a line is answered
-    module _ (words' next' links' gens' : List ℕ) (t' : Tables) (later : List Call) (now' : List ℕ) (r : Progress) (a : Answer)
-        (o : now' ≡ sets now p.at (answer_line a)) (q : r ≡ told moved 25) (room : p.at + 25 ≤ length now) where
-      answered : Grown words' next' links' gens' t' later → task_prints (after g.later) h.task ≡ answer_line a ∷ [] → after later ≡ task_leaves (after g.later) h.task
-          → Going calls c input out words' next' links' gens' t' line' now' r
-      answered grown e s = rw q
-          (heard words' next' links' gens' t' later now' (told moved 25) (answer_line a ∷ []) grown
-          (adds_one now p (told moved 25) now' (answer_line a) 25 (length-answer a) (omega arith) g.adds.counted o refl refl room)
-          (e ∙ ap (λ (x : List (List ℕ)). answer_line a ∷ x) (sym (owed_none (after later) p.compartment p.from k))) s refl refl f g.nobody)
-
-    -- nothing is to do but to answer
-    pub going-tell : (now' : List ℕ) (r : Progress) (a : Answer) → h.task ≡ Tell a → now' ≡ sets now p.at (answer_line a) → r ≡ told moved 25
-        → p.at + 25 ≤ length now → Going calls c input out words next links gens t line' now' r
-    unfolding task_prints task_leaves
-    going-tell now' r a e o q room =
-        answered words next links gens t g.later now' r a o q room g.grown (rw e) (rw e)
-
-    -- the line goes on in the next piece
-    pub going-part : h.task ≡ Nothing → Going calls c input out words next links gens t line' now moved
-    unfolding task_prints task_leaves
-    going-part e =
-        heard words next links gens t g.later now moved [] g.grown (adds_none now p moved refl refl g.adds.counted)
-        (rw e (sym (owed_none (after g.later) p.compartment p.from k))) (rw e) refl refl f g.nobody
-
     -- a P is owed
-    module _ (j : ℕ) (e : h.task ≡ Print j) where
-      abbrev pub asked : Progress
-      asked = record { len = h.len; compartment = j; from = 0; used = h.used; at = p.at; lines = p.lines; full = p.full }
+    abbrev pub asked : ℕ → Progress
+    asked j = record { len = p.len; compartment = j; from = 0; used = p.used; at = p.at; lines = p.lines; full = p.full }
 
-      pub going-owed : Going calls c input out words next links gens t line' now asked
+    pub performs-print : (j : ℕ) → j < 8 → Performs calls (Print j) out p words next links gens t out (asked j)
+    unfolding task_prints task_leaves
+    performs-print j l = record {
+      later = calls;
+      grown = g;
+      lines = [];
+      adds = adds_none out p (asked j) refl refl h;
+      prints = sym (owed_all (after calls) j l);
+      left = refl;
+      len = refl;
+      used = refl;
+      full = refl;
+      nobody = omega arith;
+    }
+
+  -- a line is answered
+  module _ (room : (p.at + 25 ≤ length out) × (p.lines ≤ p.at) × (8 ≤ p.compartment) × (p.compartment ≤ 8)) (a : Answer) (out' : List ℕ) (r : Progress)
+      (o : (out' ≡ sets out p.at (answer_line a)) × (r ≡ told p 25)) where
+    performs-line : (task : Task) (later : List Call) → Grown words next links gens t later → task_prints (after calls) task ≡ answer_line a ∷ []
+        → after later ≡ task_leaves (after calls) task → Performs calls task out p words next links gens t out' r
+    performs-line task later g e s = rw o.1 (record {
+      later = later;
+      grown = g;
+      lines = answer_line a ∷ [];
+      adds = adds_one out p (told p 25) out' (answer_line a) 25 (length-answer a) (omega arith) room.1 o.0 refl refl room.0;
+      prints = e ∙ ap (λ (x : List (List ℕ)). answer_line a ∷ x) (sym (owed_none (after later) p.compartment p.from room.2));
+      left = s;
+      len = refl;
+      used = refl;
+      full = refl;
+      nobody = room.3;
+    })
+
+    pub performs-tell : Grown words next links gens t calls → Performs calls (Tell a) out p words next links gens t out' r
+    unfolding task_prints task_leaves
+    performs-tell g = performs-line (Tell a) calls g refl refl
+
+    -- by a call, which leaves these tables
+    module _ (words₀ next₀ links₀ gens₀ : List ℕ) (t₀ : Tables) (call : Call) (w : Answers calls call words₀ next₀ links₀ gens₀ t₀ words next links gens t a) where
+      says : answer_line (answer (after calls) call) ∷ [] ≡ answer_line a ∷ []
+      says = ap (λ (y : Answer). answer_line y ∷ []) (sym w.answered)
+
+      pub performs-regions : (j : ℕ) → Performs calls (Regions j call) out p words next links gens t out' r
       unfolding task_prints task_leaves
-      going-owed =
-          let l : j < 8 = rw e at i.sound in
-          heard words next links gens t g.later now asked [] g.grown (adds_none now p asked refl refl g.adds.counted)
-          (rw e (sym (owed_all (after g.later) j l))) (rw e) refl refl f (omega arith)
+      performs-regions j = performs-line (Regions j call) (calls ++ (call ∷ [])) w.grown says (after-snoc calls call)
 
-    -- a call on regions
-    module _ (j : ℕ) (x : Call) (e : h.task ≡ Regions j x) where
-      pub regions-sound : (compartment_of x ≡ j) × (j < 8) × (on_regions x ≡ true)
-      regions-sound = rw e at i.sound
-
-      pub regions-tracked : (d : RegionTracker) → Allotted next words (heap links gens t.arena) (get_or t.trackers j d)
-      regions-tracked d = rw (at-tracker words next links gens t g.later g.grown j regions-sound.1 d) (allotted words next links gens t g.later g.grown j regions-sound.1)
-
-      pub going-regions : (d : RegionTracker) (words' next' links' gens' : List ℕ) (u : RegionChanged) (now' : List ℕ) (r : Progress)
-          → OnRegions x (get_or t.trackers j d) t.arena words next links gens words' next' links' gens' u
-          → now' ≡ sets now p.at (answer_line u.answer) → r ≡ told moved 25 → p.at + 25 ≤ length now
-          → Going calls c input out words' next' links' gens' (record { arena = u.arena; trackers = set t.trackers j u.tracker; remappers = t.remappers }) line' now' r
+      pub performs-segments : (j : ℕ) → Performs calls (Segments j call) out p words next links gens t out' r
       unfolding task_prints task_leaves
-      going-regions d words' next' links' gens' u now' r w o q room =
-          let same : compartment_of x ≡ j = regions-sound.0 in
-          let here : get_or t.trackers (compartment_of x) no_tracker ≡ get_or t.trackers j d = rw same (sym (at-tracker words next links gens t g.later g.grown j regions-sound.1 d)) in
-          let v = w (trackers_of t) g.later g.grown.pooled regions-sound.2 (omega (arith, regions-sound)) refl here in
-          let grown = regions-grown words next links gens t g.later g.grown x words' next' links' gens' _ u.answer regions-sound.2 v in
-          answered words' next' links' gens' (record { arena = u.arena; trackers = set t.trackers j u.tracker; remappers = t.remappers }) (g.later ++ (x ∷ [])) now' r u.answer o q room
-          (rw same at grown) (rw e (ap (λ (y : Answer). answer_line y ∷ []) (sym v.answered))) (rw e (after-snoc g.later x))
+      performs-segments j = performs-line (Segments j call) (calls ++ (call ∷ [])) w.grown says (after-snoc calls call)
 
-    -- another allowance
-    module _ (j n : ℕ) (e : h.task ≡ Allow j n) where
-      pub allow-sound : j < 8
-      allow-sound = rw e at i.sound
-
-      pub allow-few : together (allowances_of t.trackers) ≤ 1024
-      allow-few = pool-allowed words next links gens t g.later g.grown
-
-      pub going-allow : (u : Allowed) (now' : List ℕ) (r : Progress) → OnAllow t.trackers j n u
-          → now' ≡ sets now p.at (answer_line u.answer) → r ≡ told moved 25 → p.at + 25 ≤ length now
-          → Going calls c input out words next links gens (record { arena = t.arena; trackers = set t.trackers j u.tracker; remappers = t.remappers }) line' now' r
-      unfolding task_prints task_leaves
-      going-allow u now' r w o q room =
-          let v = w words next links gens (trackers_of t) g.later g.grown.pooled allow-sound refl in
-          answered words next links gens (record { arena = t.arena; trackers = set t.trackers j u.tracker; remappers = t.remappers }) (g.later ++ (spoken.Allow j n ∷ [])) now' r u.answer o q room
-          (allow-grown words next links gens t g.later g.grown j n _ u.answer v) (rw e (ap (λ (y : Answer). answer_line y ∷ []) (sym v.answered))) (rw e (after-snoc g.later (spoken.Allow j n)))
-
-    -- a call on segments
-    module _ (j : ℕ) (x : Call) (e : h.task ≡ Segments j x) where
-      pub segments-sound : (compartment_of x ≡ j) × (j < 8) × (on_segments x ≡ true)
-      segments-sound = rw e at i.sound
-
-      pub segments-held : (d : Remapper) → IsHeld (get_or t.remappers j d)
-      segments-held d = ((compartment (after g.later) j).segments, held words next links gens t g.later g.grown j segments-sound.1 d)
-
-      pub segments-kept : (d : Remapper) → IsSound (get_or t.remappers j d)
-      segments-kept d = ((compartment (after g.later) j).segments, sound words next links gens t g.later g.grown j segments-sound.1 d)
-
-      pub going-segments : (d : Remapper) (u : SegmentChanged) (now' : List ℕ) (r : Progress)
-          → OnSegments x (get_or t.remappers j d) u
-          → now' ≡ sets now p.at (answer_line u.answer) → r ≡ told moved 25 → p.at + 25 ≤ length now
-          → Going calls c input out words next links gens (record { arena = t.arena; trackers = t.trackers; remappers = set t.remappers j u.remapper }) line' now' r
-      unfolding task_prints task_leaves
-      going-segments d u now' r w o q room =
-          let same : compartment_of x ≡ j = segments-sound.0 in
-          let l : compartment_of x < 8 = omega (arith, segments-sound) in
-          let here : OnSegments x (get_or t.remappers (compartment_of x) d) u = rw same w in
-          let v = here (others (after g.later).allowances (compartment_of x)) (allowance (after g.later) (compartment_of x)) (compartment (after g.later) (compartment_of x)) (sound words next links gens t g.later g.grown (compartment_of x) l d) segments-sound.2 in
-          let grown = segments-grown words next links gens t g.later g.grown x l segments-sound.2 d u v in
-          answered words next links gens (record { arena = t.arena; trackers = t.trackers; remappers = set t.remappers j u.remapper }) (g.later ++ (x ∷ [])) now' r u.answer o q room
-          (rw same at grown) (rw e (ap (λ (y : Answer). answer_line y ∷ []) (sym (segments-answer words next links gens t g.later g.grown x l segments-sound.2 d u v)))) (rw e (after-snoc g.later x))
-
-      -- it changes nothing
-      pub going-same : (d : Remapper) (y : Answer) (now' : List ℕ) (r : Progress)
-          → OnSegments x (get_or t.remappers j d) (record { answer = y; remapper = get_or t.remappers j d })
-          → now' ≡ sets now p.at (answer_line y) → r ≡ told moved 25 → p.at + 25 ≤ length now
-          → Going calls c input out words next links gens t line' now' r
-      going-same d y now' r w o q room =
-          rw (set-get_or t.remappers j d) at (going-segments d (record { answer = y; remapper = get_or t.remappers j d }) now' r w o q room)
+    pub performs-allow : (words₀ next₀ links₀ gens₀ : List ℕ) (t₀ : Tables) (j n : ℕ)
+        → Answers calls (spoken.Allow j n) words₀ next₀ links₀ gens₀ t₀ words next links gens t a → Performs calls (Allow j n) out p words next links gens t out' r
+    unfolding task_prints task_leaves
+    performs-allow words₀ next₀ links₀ gens₀ t₀ j n w =
+        performs-line (Allow j n) (calls ++ (spoken.Allow j n ∷ [])) w.grown (says words₀ next₀ links₀ gens₀ t₀ (spoken.Allow j n) w) (after-snoc calls (spoken.Allow j n))
 
 -- ---- each step leaves less to do
 
 module _ (n : ℕ) (p : Progress) where
-  -- bytes are taken
-  pub less-heard : (r : Progress) → p.used < r.used → r.used ≤ n → to_do n r < to_do n p
-  unfolding to_do
-  less-heard r l m = omega (arith, bit_le (r.compartment <? 8), bit_le (not r.full))
-
-  pub less-told : (q r : Progress) → r ≡ told q 25 → p.used < q.used → q.used ≤ n → to_do n r < to_do n p
-  less-told q r e l m = less-heard r (omega (arith, ap (λ (x : Progress). x.used) e)) (omega (arith, ap (λ (x : Progress). x.used) e))
-
   module _ (f : p.full ≡ false) where
     -- there is no room
     pub less-full : to_do n (stopped p) < to_do n p
@@ -415,7 +373,7 @@ module _ (c : Script) (at : ℕ) (size : length c.line ≡ 88) where
         let i = g.idle (rw e (omega arith)) (rw e room) u in
         omega (arith, (w.off z i.2).1)
 
-    pub going_end : Feeds calls c input out at words next links gens now (record { tables = t; script = script_at line p })
+    pub going_end : Feeds calls c input out at words next links gens now t (script_at line p)
     going_end = record {
       later = g.later;
       grown = g.grown;
@@ -426,6 +384,7 @@ module _ (c : Script) (at : ℕ) (size : length c.line ≡ 88) where
       end = g.adds.end ∙ ap (λ (x : Progress). x.at + length (bytes_of g.lines)) e;
       many = omega (arith, g.adds.many, ap (λ (x : Progress). x.lines) e);
       fits = λ l. g.adds.fits (omega (arith, l, ap (λ (x : Progress). x.at) e));
+      room = g.size ∙ sym size;
       taken = g.taken;
       whole = λ f. (omega (arith, w.off z f, g.taken), omega (arith, w.off z f, g.nobody));
       stuck = g.stuck;

@@ -10,11 +10,9 @@ use Rattle.definitions.specs.Reckoning.{Compartment}
 use Rattle.definitions.specs.Calls.{stream_of}
 use Rattle.definitions.specs.Stream.{stream}
 use Rattle.definitions.specs.Script.{answer_line, mapping_line}
-use Rattle.definitions.specs.declared.answer.Answer.TheVariants.{Accepted}
+use Rattle.std.specs.Prelude.{Ok, Option, Some, None}
 use Rattle.definitions.specs.declared.remapper.Mapping.{Mapping}
 use Rattle.columns.specs.Columns.{Wrote}
-use Rattle.columns.specs.declared.Put.{Put}
-use Rattle.columns.specs.declared.Put.TheVariants.{At, NoRoom}
 use Rattle.columns.proofs.Room.{sets_behind, written}
 use Rattle.lines.proofs.Written.{length-answer, length-mapping}
 use Rattle.lines.proofs.Putting.{put-at, put-none, none-whole}
@@ -125,8 +123,8 @@ module _ (ls : List (List ℕ)) (out₀ out : List ℕ) (p₀ p : Progress) (res
     stuck = λ f. absurd (true≢false (sym f ∙ i.full));
   }
 
-  module _ (line : List ℕ) (l : 1 ≤ length line) (more : List (List ℕ)) (e : rest ≡ line ∷ more) (out' : List ℕ) (r : Put) (w : Wrote p.at line out r out') where
-    pub printing-full : r ≡ NoRoom → Prints ls out₀ out' p₀ (stopped p)
+  module _ (line : List ℕ) (l : 1 ≤ length line) (more : List (List ℕ)) (e : rest ≡ line ∷ more) (out' : List ℕ) (r : Option ℕ) (w : Wrote p.at line out r out') where
+    pub printing-full : r ≡ None → Prints ls out₀ out' p₀ (stopped p)
     printing-full q =
         let v = put-none p.at line out out' r w q in
         let same : length out ≡ length out₀ = adds-length i.done out₀ out p₀ p i.adds in
@@ -142,7 +140,7 @@ module _ (ls : List (List ℕ)) (out₀ out : List ℕ) (p₀ p : Progress) (res
           stuck = λ f. (i.compartment, i.from, λ b. rw e (none-whole (length out₀ - p.at) line (more ++ b) (omega (arith, v.0))));
         })
 
-    pub printing-more : (k : ℕ) → r ≡ At k → Printing ls out₀ out' p₀ (record {
+    pub printing-more : (k : ℕ) → r ≡ Some k → Printing ls out₀ out' p₀ (record {
       len = p.len;
       compartment = p.compartment;
       from = p.from + 1;
@@ -165,7 +163,7 @@ module _ (ls : List (List ℕ)) (out₀ out : List ℕ) (p₀ p : Progress) (res
         }
 
     -- the counts fit: there are no more lines than bytes, and of a P not so many
-    pub printing-counts : (k : ℕ) → r ≡ At k → p.lines + 1 ≤ k
+    pub printing-counts : (k : ℕ) → r ≡ Some k → p.lines + 1 ≤ k
     printing-counts k q = omega (arith, i.adds.counted, (put-at p.at line out out' r w k q).1)
 
     pub printing-fits : length ls ≤ 140000 - (p₀.from - 1) → p.from + 1 < 2 ^ 64
@@ -242,7 +240,7 @@ module _ (words next : List ℕ) (t : RegionTracker) (m : Remapper) (c : Compart
         len = refl;
         used = refl;
         whole = λ f. absurd (true≢false f);
-        stuck = λ f. (refl, omega arith, λ b. none-whole (length out - p.at) (answer_line (Accepted (length (stream_of c)))) (map mapping_line (stream_of c) ++ b) (omega (arith, length-answer (Accepted (length (stream_of c))))));
+        stuck = λ f. (refl, omega arith, λ b. none-whole (length out - p.at) (answer_line (Ok (length (stream_of c)))) (map mapping_line (stream_of c) ++ b) (omega (arith, length-answer (Ok (length (stream_of c))))));
       }
 
       -- as many others as fit are written behind its place, and then it
@@ -259,19 +257,19 @@ module _ (words next : List ℕ) (t : RegionTracker) (m : Remapper) (c : Compart
 
       module _ (out' : List ℕ) (r : Progress)
           (i : Prints (drop (1 - 1) (map mapping_line (stream (stored_at next words t.head) (segments_from copy 0 n)))) out out' begun r) where
-        pub print-all : (many : ℕ) (out'' : List ℕ) (u : Put) → p.lines ≤ p.at → p.at + 25 ≤ length out
-            → many ≡ length (stream (stored_at next words t.head) (segments_from copy 0 n)) → Wrote p.at (answer_line (Accepted many)) out' u out''
+        pub print-all : (many : ℕ) (out'' : List ℕ) (u : Option ℕ) → p.lines ≤ p.at → p.at + 25 ≤ length out
+            → many ≡ length (stream (stored_at next words t.head) (segments_from copy 0 n)) → Wrote p.at (answer_line (Ok many)) out' u out''
             → Prints (drop p.from (lines_on c)) out out'' p r
         unfolding lines_on
         print-all many out'' u h room e w =
-            let line : List ℕ = answer_line (Accepted (length (stream_of c))) in
-            let same : answer_line (Accepted many) ≡ line = ap (λ (j : ℕ). answer_line (Accepted j)) (e ∙ ap length print-stream) in
-            let size : length line ≡ 25 = length-answer (Accepted (length (stream_of c))) in
+            let line : List ℕ = answer_line (Ok (length (stream_of c))) in
+            let same : answer_line (Ok many) ≡ line = ap (λ (j : ℕ). answer_line (Ok j)) (e ∙ ap length print-stream) in
+            let size : length line ≡ 25 = length-answer (Ok (length (stream_of c))) in
             let first : List ℕ = sets out p.at line in
             let one : Adds (line ∷ []) out first p begun = adds_one out p begun first line 25 size (omega arith) h refl refl refl room in
             let kept : length first ≡ length out = length-sets out p.at line in
             let o : out'' ≡ sets out' p.at line =
-            written p.at 25 (answer_line (Accepted many)) out' u out'' (length-answer (Accepted many)) (omega (arith, adds-length i.written out out' begun r i.adds)) w ∙ ap (sets out' p.at) same in
+            written p.at 25 (answer_line (Ok many)) out' u out'' (length-answer (Ok many)) (omega (arith, adds-length i.written out out' begun r i.adds)) w ∙ ap (sets out' p.at) same in
             let rest : Adds i.written first out'' begun r = record {
               text = o ∙ ap (λ (x : List ℕ). sets x p.at line) i.adds.text ∙ sets-before line out p.at (p.at + 25) (bytes_of i.written) (omega arith);
               end = i.adds.end;

@@ -3,6 +3,7 @@ use Rattle.std.specs.Prelude.{if◌then◌else◌}
 use Prim.Native.Nat.{ℕ, ◌<◌, ◌≤◌}
 use mathlib.Core.Path.{◌≡◌, refl, sym, ap, ◌∙◌}
 use mathlib.Core.Bool.{Bool, true, false}
+use mathlib.Core.Logic.{◌⊎◌, inl, inr}
 use mathlib.Core.List.{List, [], ◌∷◌}
 use native.Mathlib.Omega.{arith}
 use native.Mathlib.Decide.{dec_lt}
@@ -17,25 +18,30 @@ use Rattle.definitions.specs.Questions.{ask, accepted}
 use Rattle.definitions.specs.Calls.{State, answer, allowed}
 use Rattle.definitions.specs.Script.{Read, Line, call, malformed, numbers, unread, call_of, columns_of, line_of, arity, printed, left, mapping_lines}
 use Rattle.definitions.specs.declared.answer.Refusal.TheVariants.{NoCompartment}
-use Rattle.definitions.specs.declared.answer.Answer.TheVariants.{Refused}
+use Rattle.std.specs.Prelude.{Err}
 use Rattle.definitions.specs.declared.call.Call.{Call}
 use Rattle.definitions.specs.declared.call.Call.TheVariants.{Add, Remove, Refcount, Overlaps, Map, Unmap, UnmapGpa, Permissions, Remap, Mappings, Allow}
 use Rattle.lines.specs.Lines.{line_from}
-use Rattle.lines.specs.declared.Line.{Line as Said}
-use Rattle.lines.specs.declared.Line.TheVariants as said
 use Rattle.capability_engine.specs.declared.script.Task.{Task}
-use Rattle.capability_engine.specs.declared.script.Task.TheVariants.{Tell, Regions}
+use Rattle.capability_engine.specs.declared.script.Task.TheVariants.{Tell, Regions, Segments}
 use Rattle.capability_engine.specs.CompartmentSteps.{on_regions, on_segments}
-use Rattle.capability_engine.specs.ScriptSteps.{task_in, task_of, task_prints, task_leaves, Sound}
+use Rattle.capability_engine.specs.ScriptSteps.{task_in, task_for, task_of, task_prints, task_leaves, Sound}
 
 -- ---- the code's cases
 
-module _ (l : Said) (c : Call) (e : l ≡ said.Call c) (k : ℕ) (q : k ≡ compartment_of c) where
-  pub task-none : 8 ≤ k → Tell (Refused NoCompartment) ≡ task_of l
-  task-none h = rw e (simp (le-leb 8 (compartment_of c) (rw q at h)))
+module _ (c : Call) (k : ℕ) where
+  pub task-on : compartment_of c ≡ k → (f : ℕ → Task) → k < 8 → task_in c ≡ f (compartment_of c) → f k ≡ task_for c
+  task-on q f h t = simp (lt-leb 8 (compartment_of c) (rw (sym q) at h)) (ap f (sym q) ∙ sym t)
 
-  pub task-on : (f : ℕ → Task) → k < 8 → task_in c ≡ f (compartment_of c) → f k ≡ task_of l
-  task-on f h t = rw e (simp (lt-leb 8 (compartment_of c) (rw q at h)) (ap f q ∙ sym t))
+-- a map or one of the unmaps
+pub task-segments : (c : Call)
+    → (((k : ℕ) × (p : HostAddr) × (g : GuestAddr) × (n : ℕ) × (t : ℕ) × (c ≡ Map k p g n t))
+    ⊎ (((k : ℕ) × (p : HostAddr) × (n : ℕ) × (c ≡ Unmap k p n)) ⊎ ((k : ℕ) × (g : GuestAddr) × (n : ℕ) × (c ≡ UnmapGpa k g n))))
+    → task_in c ≡ Segments (compartment_of c) c
+unfolding compartment_of
+task-segments c (inl (k, p, g, n, t, e)) = rw e
+task-segments c (inr (inl (k, p, n, e))) = rw e
+task-segments c (inr (inr (k, g, n, e))) = rw e
 
 pub task-other : (c : Call) → ((k : ℕ) (p : HostAddr) (g : GuestAddr) (n t : ℕ) → c ≡ Map k p g n t → ⊥) → ((k : ℕ) (p : HostAddr) (n : ℕ) → c ≡ Unmap k p n → ⊥)
     → ((k : ℕ) (g : GuestAddr) (n : ℕ) → c ≡ UnmapGpa k g n → ⊥) → ((k : ℕ) → c ≡ Mappings k → ⊥) → ((k n : ℕ) → c ≡ Allow k n → ⊥) → task_in c ≡ Regions (compartment_of c) c
@@ -101,7 +107,7 @@ pub record Asks (l : Line) (t : Task) : Type 0 where
   pub leaves : (s : State) → left s l ≡ task_leaves s t
 
 -- a call on no compartment answers so, prints nothing else and leaves everything
-none-answer : (s : State) (c : Call) → 8 ≤ compartment_of c → answer s c ≡ Refused NoCompartment
+none-answer : (s : State) (c : Call) → 8 ≤ compartment_of c → answer s c ≡ Err NoCompartment
 unfolding answer ask
 none-answer s c h = simp (le-ltb (compartment_of c) 8 h)
 
@@ -119,7 +125,7 @@ none-lines s (Remap k i n) h = refl
 none-lines s (Mappings k) h = simp (le-ltb k 8 h)
 none-lines s (Allow k n) h = refl
 
-asks_none : (c : Call) → 8 ≤ compartment_of c → Asks (call c) (Tell (Refused NoCompartment))
+asks_none : (c : Call) → 8 ≤ compartment_of c → Asks (call c) (Tell (Err NoCompartment))
 unfolding task_prints task_leaves
 asks_none c h = record {
   sound = tt;
@@ -129,12 +135,12 @@ asks_none c h = record {
 
 asks-in : (c : Call) → Spoken c → compartment_of c < 8 → Asks (call c) (task_in c)
 unfolding task_prints task_leaves compartment_of on_regions on_segments mapping_lines reckon allowed
-asks-in (Add k a e r) u h = record { sound = (refl, h, refl); prints = λ s. refl; leaves = λ s. refl }
-asks-in (Remove k a e r) u h = record { sound = (refl, h, refl); prints = λ s. refl; leaves = λ s. refl }
-asks-in (Refcount k a e) u h = record { sound = (refl, h, refl); prints = λ s. refl; leaves = λ s. refl }
-asks-in (Map k p g n t) u h = record { sound = (refl, h, refl); prints = λ s. refl; leaves = λ s. refl }
-asks-in (Unmap k p n) u h = record { sound = (refl, h, refl); prints = λ s. refl; leaves = λ s. refl }
-asks-in (UnmapGpa k g n) u h = record { sound = (refl, h, refl); prints = λ s. refl; leaves = λ s. refl }
+asks-in (Add k a e r) u h = record { sound = record { one = refl; below = h; is = refl }; prints = λ s. refl; leaves = λ s. refl }
+asks-in (Remove k a e r) u h = record { sound = record { one = refl; below = h; is = refl }; prints = λ s. refl; leaves = λ s. refl }
+asks-in (Refcount k a e) u h = record { sound = record { one = refl; below = h; is = refl }; prints = λ s. refl; leaves = λ s. refl }
+asks-in (Map k p g n t) u h = record { sound = record { one = refl; below = h; is = refl }; prints = λ s. refl; leaves = λ s. refl }
+asks-in (Unmap k p n) u h = record { sound = record { one = refl; below = h; is = refl }; prints = λ s. refl; leaves = λ s. refl }
+asks-in (UnmapGpa k g n) u h = record { sound = record { one = refl; below = h; is = refl }; prints = λ s. refl; leaves = λ s. refl }
 asks-in (Mappings k) u h = record { sound = h; prints = λ s. refl; leaves = λ s. next-read s (Mappings k) refl refl }
 asks-in (Allow k n) u h = record { sound = h; prints = λ s. refl; leaves = λ s. refl }
 asks-in (Overlaps k g n) u h = absurd u

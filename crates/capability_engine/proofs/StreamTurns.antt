@@ -1,5 +1,5 @@
 -- The moves, in the terms of the code. Assumes nothing.
-use Rattle.std.specs.Prelude.{if◌then◌else◌}
+use Rattle.std.specs.Prelude.{None, Some, if◌then◌else◌}
 use Prim.Native.Nat.{ℕ, ◌+◌, ◌-◌, ◌^◌, ◌≤◌, ◌<◌, min, max}
 use mathlib.Core.Path.{◌≡◌, refl, ap, ◌∙◌}
 use mathlib.Core.Bool.{Bool, true, false}
@@ -17,14 +17,12 @@ use Rattle.definitions.specs.declared.region.Region.{Region}
 use Rattle.definitions.specs.declared.remapper.Segment.{Segment}
 use Rattle.definitions.specs.declared.remapper.Mapping.{Mapping}
 use Rattle.capability_engine.specs.declared.stream.RemapCursor.{RemapCursor}
-use Rattle.capability_engine.specs.declared.stream.Step.{Step}
-use Rattle.capability_engine.specs.declared.stream.Step.TheVariants.{Found, Done}
 use Rattle.capability_engine.specs.declared.stream.Turn.{Turn}
-use Rattle.capability_engine.specs.declared.stream.Turn.TheVariants.{Yields, Skips, Ends}
+use Rattle.capability_engine.specs.declared.stream.Turn.TheVariants.{Yields, Skips}
 use Rattle.capability_engine.specs.PoolWords.{region_at}
 use Rattle.capability_engine.specs.StreamFlow.{part, Rising}
 use Rattle.capability_engine.specs.SegmentWords.{segment_at, segments_from}
-use Rattle.capability_engine.specs.StreamCursor.{Table, goes_on, remaining, Ready, to_go, Kept, Says, Turned, runs, open_from, passed_to, begins, last_turn, first_turn}
+use Rattle.capability_engine.specs.StreamCursor.{Table, goes_on, remaining, Ready, Kept, Step, Says, Turned, runs, open_from, passed_to, begins, last_turn, first_turn}
 use Rattle.capability_engine.proofs.StreamFlows.{part_none, part-some, part-above, above-none, above-some}
 use Rattle.capability_engine.proofs.StreamLinks.{segments-step, segments-none, good-at}
 use Rattle.capability_engine.proofs.StreamMoves.{Move, pass, begin, first}
@@ -109,34 +107,10 @@ module _ (nx ws sg : List ℕ) (n : ℕ) (c : RemapCursor) (g : Ready nx ws sg n
 pub end_fits : {ws sg : List ℕ} {n : ℕ} (i : ℕ) (s : Segment) → Table ws sg n → i < n → s ≡ segment_at sg i → s.hpa.0 + s.size < 2 ^ 64
 end_fits {ws} {sg} {n} i s g l e = rw e (good-at sg n i g.good l).host
 
--- a step after a turn that yields none
-says_on : (nx ws sg : List ℕ) (n : ℕ) (c d : RemapCursor) (q : Step) → remaining nx ws sg n c ≡ remaining nx ws sg n d
-    → to_go nx ws sg n d < to_go nx ws sg n c → Says nx ws sg n d q → Says nx ws sg n c q
-says_on nx ws sg n c d Done e l h = e ∙ h
-says_on nx ws sg n c d (Found m b) e l h = (e ∙ h.0, h.1, omega (arith, h.2))
-
--- what a turn says, by its case
-module _ (nx ws sg : List ℕ) (n : ℕ) (c : RemapCursor) (q : Turn) (h : Turned nx ws sg n c q) where
-  pub told-ends : q ≡ Ends → remaining nx ws sg n c ≡ []
-  told-ends e = rw e at h
-
-  pub told-yields : (m : Mapping) (d : RemapCursor) → q ≡ Yields m d → Says nx ws sg n c (Found m d)
-  told-yields m d e = let v : Turned nx ws sg n c (Yields m d) = rw e at h in (v.0, v.1, v.2)
-
-  pub told-skips : (d : RemapCursor) → q ≡ Skips d
-      → (remaining nx ws sg n c ≡ remaining nx ws sg n d) × Ready nx ws sg n d × (to_go nx ws sg n d < to_go nx ws sg n c)
-  told-skips d e = let v : Turned nx ws sg n c (Skips d) = rw e at h in (v.0, v.1, v.2)
-
-  -- the step s behind the skip is the step from c on, built anew as z
-  pub told-on : (d : RemapCursor) → q ≡ Skips d → (s z : Step) → Says nx ws sg n d s → s ≡ z → Says nx ws sg n c z
-  told-on d e s z k f =
-      let v = told-skips d e in
-      says_on nx ws sg n c d z v.0 v.2 (rw f at k)
-
 -- what an answer says, by its case
 module _ (nx ws sg : List ℕ) (n : ℕ) (c : RemapCursor) (q : Step) (h : Says nx ws sg n c q) where
-  pub told-done : q ≡ Done → remaining nx ws sg n c ≡ []
+  pub told-done : q ≡ None → remaining nx ws sg n c ≡ []
   told-done e = rw e at h
 
-  pub told-found : (m : Mapping) (d : RemapCursor) → q ≡ Found m d → Says nx ws sg n c (Found m d)
+  pub told-found : (m : Mapping) (d : RemapCursor) → q ≡ Some (m, d) → Says nx ws sg n c (Some (m, d))
   told-found m d e = rw e at h

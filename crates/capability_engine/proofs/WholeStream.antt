@@ -19,8 +19,8 @@ use Rattle.definitions.specs.Calls.{State, start, compartment, stream_of, stream
 use Rattle.definitions.specs.Bundles.{Step, single, bundle, step_answer, step_calls, step_leaves, done_from, done, calls_from, calls_of, judged_from, judged, steps_fed}
 use Rattle.definitions.specs.Independence.{own}
 use Rattle.definitions.specs.Loan.{LeavesNoTrace}
-use Rattle.definitions.specs.declared.answer.Answer.{Answer}
-use Rattle.definitions.specs.declared.answer.Answer.TheVariants.{Accepted}
+use Rattle.definitions.specs.Answers.{Answer}
+use Rattle.std.specs.Prelude.{Ok}
 use Rattle.definitions.specs.declared.call.Call.{Call}
 use Rattle.definitions.specs.declared.call.Call.TheVariants.{Add, Remove}
 use Rattle.definitions.specs.declared.remapper.Mapping.{Mapping}
@@ -76,7 +76,7 @@ told_more m' heard x a t e g = record {
 
 pub told : {m : Memory} {heard : List (Step × Bool)} → Ran m heard → Told m heard
 unfolding judged judged_from calls_of calls_from step_answer step_calls
-told (said.new c) = record { grown = c.made refl; same = refl }
+told (said.new c) = record { grown = (c.made _ refl).grown; same = refl }
 told (said.changed {m} {m'} {heard} {call} {a} r p) =
     let t = told r in
     let q = p (calls_of (steps_of heard)) t.grown in
@@ -98,7 +98,7 @@ pub flat_map : {A : Type 0} (f : A → List ℕ) (xs : List A) → flat (map f x
 flat_map f [] = refl
 flat_map f (x ∷ xs) = ap (λ l. f x ++ l) (flat_map f xs)
 
-pub accepted-many : (a b : ℕ) → Accepted a ≡ Accepted b → a ≡ b
+pub accepted-many : (a b : ℕ) → ◌≡◌ {A = Answer} (Ok a) (Ok b) → a ≡ b
 accepted-many a b e = cc
 
 -- the numbers read of a page, of any width
@@ -136,7 +136,7 @@ module _ (m : Memory) (calls : List Call) (g : GrownBy m calls) (k : ℕ) (l : k
   page-few from room = simp (length-take, length-drop) (omega arith)
 
   -- a page: what it answers, and the numbers read
-  module _ (from many : ℕ) (out out' : List ℕ) (p : Page m k from out out' (Accepted many)) where
+  module _ (from many : ℕ) (out out' : List ℕ) (p : Page m k from out out' (Ok many)) where
     page-many : many ≡ length (page 5 groups from (length out))
     unfolding answer answer_in ask compartment_of
     page-many = accepted-many _ _ (simp (lt-ltb k 8 l) at (p calls g).reads.answered)

@@ -1,5 +1,5 @@
 -- How the pool, the eight trackers and the eight remappers hold what calls made, and what each public call promises.
-use Rattle.std.specs.Prelude.{ℕ, ◌+◌, ◌<◌, ◌≡◌, true, false, List, [], ◌∷◌, ◌++◌, map, length, replicate, if◌then◌else◌}
+use Rattle.std.specs.Prelude.{ℕ, ◌+◌, ◌<◌, ◌≡◌, false, List, [], ◌∷◌, ◌++◌, map, length, replicate, if◌then◌else◌, Option, Some, None, IsSome}
 use Rattle.gen_arena.specs.Grown.{fresh}
 use Rattle.gen_arena.specs.declared.GenArena.{GenArena}
 use Rattle.definitions.specs.Regions.{regions}
@@ -11,14 +11,12 @@ use Rattle.definitions.specs.Calls.{start, compartment, answer, after}
 use Rattle.definitions.specs.Bundles.{bundle_of, bundle_answer, counted}
 use Rattle.definitions.specs.Planner.{plan_answer, plan_left}
 use Rattle.definitions.specs.declared.answer.Refusal.TheVariants.{NoCompartment}
-use Rattle.definitions.specs.declared.answer.Answer.{Answer}
-use Rattle.definitions.specs.declared.answer.Answer.TheVariants.{Accepted}
+use Rattle.definitions.specs.Answers.{Answer}
+use Rattle.std.specs.Prelude.{Ok}
 use Rattle.definitions.specs.declared.call.Call.{Call}
 use Rattle.capability_engine.specs.declared.region.RegionTracker.{RegionTracker}
 use Rattle.capability_engine.specs.declared.remapper.Remapper.{Remapper}
 use Rattle.capability_engine.specs.declared.compartments.Tables.{Tables}
-use Rattle.capability_engine.specs.declared.compartments.Outcome.{Outcome}
-use Rattle.capability_engine.specs.declared.compartments.Created.{Created}
 use Rattle.capability_engine.specs.PoolWords.{pool_len}
 use Rattle.capability_engine.specs.PoolChain.{cnt, slots, Listed, stored_at}
 use Rattle.capability_engine.specs.PoolOwn.{heap, IsHeap, free_of}
@@ -95,17 +93,17 @@ pub record SameTables (words next links gens : List ℕ) (t : Tables) (words' ne
   pub same_tables : t' ≡ t
 
 -- a call that may change the tables: its answer, what it leaves, and that a refused one leaves everything
-pub record Answers (calls : List Call) (call : Call) (words next links gens : List ℕ) (t : Tables) (words' next' links' gens' : List ℕ) (r : Outcome) : Type 0 where
-  pub answered : r.answer ≡ answer (after calls) call
-  pub grown : Grown words' next' links' gens' r.tables (calls ++ (call ∷ []))
-  pub kept : accepted r.answer ≡ false → SameTables words next links gens t words' next' links' gens' r.tables
+pub record Answers (calls : List Call) (call : Call) (words next links gens : List ℕ) (t : Tables) (words' next' links' gens' : List ℕ) (t' : Tables) (r : Answer) : Type 0 where
+  pub answered : r ≡ answer (after calls) call
+  pub grown : Grown words' next' links' gens' t' (calls ++ (call ∷ []))
+  pub kept : accepted r ≡ false → SameTables words next links gens t words' next' links' gens' t'
 
 -- a bundle for compartment k (document 02, order 9): its answer; accepted, it leaves what its calls leave one by one; refused, it
 -- leaves everything, word for word
-pub record AnswersBundle (calls : List Call) (k : ℕ) (ns words next links gens : List ℕ) (t : Tables) (words' next' links' gens' : List ℕ) (r : Outcome) : Type 0 where
-  pub answered : r.answer ≡ bundle_answer (after calls) k (bundle_of k ns)
-  pub grown : Grown words' next' links' gens' r.tables (calls ++ counted (after calls) k (bundle_of k ns))
-  pub kept : accepted r.answer ≡ false → SameTables words next links gens t words' next' links' gens' r.tables
+pub record AnswersBundle (calls : List Call) (k : ℕ) (ns words next links gens : List ℕ) (t : Tables) (words' next' links' gens' : List ℕ) (t' : Tables) (r : Answer) : Type 0 where
+  pub answered : r ≡ bundle_answer (after calls) k (bundle_of k ns)
+  pub grown : Grown words' next' links' gens' t' (calls ++ counted (after calls) k (bundle_of k ns))
+  pub kept : accepted r ≡ false → SameTables words next links gens t words' next' links' gens' t'
 
 -- a call that only reads
 pub record Reads (calls : List Call) (call : Call) (words next links gens : List ℕ) (t : Tables) (r : Answer) : Type 0 where
@@ -123,7 +121,7 @@ pub record ReadsPage (width : ℕ) (groups : Compartment → List (List ℕ)) (f
 
 -- a page of a stored list, which no call names
 pub record ReadsList (width : ℕ) (groups : Compartment → List (List ℕ)) (calls : List Call) (k from : ℕ) (out out' : List ℕ) (r : Answer) : Type 0 where
-  pub answered : r ≡ ask ((k <? 8, NoCompartment) ∷ []) (Accepted (length (page width (groups (compartment (after calls) k)) from (length out))))
+  pub answered : r ≡ ask ((k <? 8, NoCompartment) ∷ []) (Ok (length (page width (groups (compartment (after calls) k)) from (length out))))
   pub slice : out' ≡ page_left width (groups (compartment (after calls) k)) k from out
 
 -- a page of the script for a wanted layout in compartment k, under the allowance that it has (document 02, order 13); no call
@@ -140,10 +138,14 @@ Sized words next links gens = (length words ≡ pool_len) × (length next ≡ 10
 abbrev pub no_trackers : Trackers
 no_trackers = record { arena = fresh; list = replicate 8 (record { head = 1024; count = 0; allowance = 128 }) }
 
+-- what new made
+pub record Made (words next links gens : List ℕ) (t : Tables) : Type 0 where
+  pub empty : trackers_of t ≡ no_trackers
+  pub bare : Remapped t.remappers start.compartments
+  pub grown : Grown words next links gens t []
+
 -- what new promises
-pub record Creates (words next links gens links' gens' : List ℕ) (r : Created) : Type 0 where
-  pub empty : trackers_of r.tables ≡ no_trackers
-  pub bare : Remapped r.tables.remappers start.compartments
-  pub made : r.done ≡ true → Grown words next links' gens' r.tables []
-  pub sized : Sized words next links gens → r.done ≡ true
-  pub kept : r.done ≡ false → (links' ≡ links) × (gens' ≡ gens)
+pub record Creates (words next links gens links' gens' : List ℕ) (r : Option Tables) : Type 0 where
+  pub made : (t : Tables) → r ≡ Some t → Made words next links' gens' t
+  pub sized : Sized words next links gens → IsSome r
+  pub kept : r ≡ None → (links' ≡ links) × (gens' ≡ gens)

@@ -7,9 +7,12 @@ pub mod RegionAsks
 pub mod RegionListing
 pub mod StreamFlow
 pub mod StreamCursor
+pub mod StreamProps
+pub mod StreamLists
 pub mod RemapHeld
 pub mod RemapAsking
 pub mod RemapAnswers
+pub mod RemapSteps
 pub mod RemapListing
 pub mod CompartmentGrown
 pub mod CompartmentSteps

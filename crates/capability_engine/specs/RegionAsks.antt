@@ -1,26 +1,25 @@
 -- What one walk over a list of regions finds out before an add or a remove changes anything: a step for each region.
 use Rattle.std.specs.Prelude.{ℕ, ◌+◌, ◌^◌, ◌-◌, ◌≤◌, ◌<◌, max, ◌≡◌, Bool, true, false, not, ◌&&◌, ◌||◌, List, [], ◌∷◌, get_or, set, length, if◌then◌else◌}
 use Rattle.definitions.specs.Tests.{◌<?◌, ◌≤?◌, ◌=?◌, bit, all}
-use Rattle.definitions.specs.Rights.{Right, READ, WRITE, EXEC, SUPER, UNCACHEABLE, DEVICE, named}
+use Rattle.definitions.specs.declared.region.Counters.{Counters}
 use Rattle.definitions.specs.Regions.{meets, splits, regions}
 use Rattle.definitions.specs.Questions.{every_named, ask, accepted}
 use Rattle.definitions.specs.declared.addr.HostAddr.{HostAddr}
 use Rattle.definitions.specs.declared.region.Values.{Values}
 use Rattle.definitions.specs.declared.region.Region.{Region}
-use Rattle.definitions.specs.declared.answer.Refusal.TheVariants.{PoolExceeded, StillInUse}
-use Rattle.definitions.specs.declared.answer.Answer.{Answer}
-use Rattle.definitions.specs.declared.answer.Answer.TheVariants.{Accepted}
+use Rattle.definitions.specs.declared.answer.Refusal.{Refusal}
+use Rattle.definitions.specs.declared.answer.Refusal.TheVariants.{CountFull, OutOfMemory, InvalidRegion, EndedBefore, CountEmpty, PoolExceeded, StillInUse}
+use Rattle.definitions.specs.Answers.{Answer}
+use Rattle.std.specs.Prelude.{Result, Ok, Err}
 use Rattle.definitions.proofs.Lists.{Ordered, Blank, added, removed}
 use Rattle.definitions.proofs.Stored.{Counted}
 use Rattle.definitions.proofs.Tables.{add_on, remove_on}
 use Rattle.capability_engine.specs.declared.region.AddAsk.{AddAsk}
 use Rattle.capability_engine.specs.declared.region.RemoveAsk.{RemoveAsk}
 use Rattle.capability_engine.specs.declared.region.RegionTracker.{RegionTracker}
-use Rattle.capability_engine.specs.declared.region.Allowed.{Allowed}
-use Rattle.capability_engine.specs.declared.region.Changed.{Changed}
 use Rattle.capability_engine.specs.declared.region.Skipped.{Skipped}
 use Rattle.capability_engine.specs.PoolChain.{Walkable, stored_at, SkipsBelow}
-use Rattle.capability_engine.specs.PoolOwn.{Heap, heap, free_of, Ready, Pass}
+use Rattle.capability_engine.specs.PoolOwn.{Heap, free_of, Ready, Pass}
 
 -- a step for each region of a list
 module _ {A : Type 0} (step : A → Region → A) where
@@ -28,11 +27,12 @@ module _ {A : Type 0} (step : A → Region → A) where
   fold_from a [] = a
   fold_from a (r ∷ rs) = fold_from (step a r) rs
 
--- do the counts that the rights name pass, by whether each count does?
-unfoldable pub every_of : ℕ → Bool → Bool → Bool → Bool → Bool → Bool → Bool
-every_of rights a b c d e f =
-    all (λ (q : Right × Bool). (named q.0 rights =? 0) || q.1)
-    ((READ, a) ∷ (WRITE, b) ∷ (EXEC, c) ∷ (SUPER, d) ∷ (UNCACHEABLE, e) ∷ (DEVICE, f) ∷ [])
+-- do the counts that are named pass this test?
+unfoldable pub every_of : (ℕ → Bool) → Counters → Counters → Bool
+every_of p names counts =
+    all (λ (q : ℕ × ℕ). (q.0 =? 0) || p q.1)
+    ((names.read, counts.read) ∷ (names.write, counts.write) ∷ (names.exec, counts.exec) ∷ (names.supervisor, counts.supervisor)
+    ∷ (names.uncacheable, counts.uncacheable) ∷ (names.device, counts.device) ∷ [])
 
 -- question 4 of one region, and of the rights' counts
 unfoldable pub low_enough : ℕ → Values → Bool
@@ -71,6 +71,24 @@ remove_step a e rights ask r = record {
   gone = ask.gone || (meets a e r && ((r.values.refcount =? 1) || not (every_named (λ n. not (n =? 1)) rights r.values)));
 }
 
+-- what is left to answer by questions 2 and 3 and by an empty range
+abbrev pub answer_after : Result Unit Refusal → HostAddr → HostAddr → Answer → Answer
+answer_after (Ok u) a e rest = if a.0 =? e.0 then Ok 0 else rest
+answer_after (Err why) a e rest = Err why
+
+-- the other questions of an add and of a remove, by what a walk found out
+unfoldable pub judged_add : HostAddr → AddAsk → Answer
+judged_add e w =
+    ask ((w.raisable, CountFull) ∷ (bit (w.from.0 <? e.0) + (bit w.cuts_start + bit w.cuts_end) <? w.left, OutOfMemory) ∷ [])
+    (Ok (bit ((w.gap || (w.from.0 <? e.0)) || w.fresh)))
+
+unfoldable pub judged_remove : ℕ → HostAddr → RemoveAsk → Answer
+judged_remove room a w =
+    ask
+    ((w.begun, InvalidRegion) ∷ (a.0 <? w.last.0, EndedBefore)
+    ∷ ((not w.cuts_start || (0 <? room)) && (not w.cuts_end || (w.lack ≤? 1024 - bit w.cuts_start)), OutOfMemory) ∷ (w.lowerable, CountEmpty) ∷ [])
+    (Ok (bit w.gone))
+
 -- a compartment's list is in the pool, and is that of some values with no count above 65,535
 pub record Tracked (nx ws : List ℕ) (fl : Heap) (head : ℕ) : Type 0 where
   pub ready : Ready (set nx 1024 head) ws fl
@@ -92,10 +110,10 @@ pub record Counts (t : RegionTracker) (nx' ws' : List ℕ) (t' : RegionTracker) 
   pub many : t'.count ≡ length (stored_at nx' ws' t'.head)
 
 -- a tracker gets another allowance, where the others' are so many together; refused, it is as it was
-pub record AllowsOne (t : RegionTracker) (others n : ℕ) (r : Allowed) : Type 0 where
-  pub answer : r.answer ≡ ask ((others + n ≤? 1024, PoolExceeded) ∷ (t.count ≤? n, StillInUse) ∷ []) (Accepted 0)
-  pub done : accepted r.answer ≡ true → r.tracker ≡ record { head = t.head; count = t.count; allowance = n }
-  pub kept : accepted r.answer ≡ false → r.tracker ≡ t
+pub record AllowsOne (t : RegionTracker) (others n : ℕ) (t' : RegionTracker) (r : Answer) : Type 0 where
+  pub answer : r ≡ ask ((others + n ≤? 1024, PoolExceeded) ∷ (t.count ≤? n, StillInUse) ∷ []) (Ok 0)
+  pub done : accepted r ≡ true → t' ≡ record { head = t.head; count = t.count; allowance = n }
+  pub kept : accepted r ≡ false → t' ≡ t
 
 -- nothing has changed
 pub record Untouched (nx ws : List ℕ) (fl : Heap) (head : ℕ) (nx' ws' : List ℕ) (fl' : Heap) (head' : ℕ) : Type 0 where
@@ -117,15 +135,15 @@ pub record Changes (expected : Answer) (a e : HostAddr) (nx ws : List ℕ) (fl :
   pub empty : a.0 ≡ e.0 → Untouched nx ws fl head nx' ws' fl' head'
   pub kept : accepted r ≡ false → Untouched nx ws fl head nx' ws' fl' head'
 
-abbrev pub AddsRegion : List ℕ → List ℕ → Heap → RegionTracker → HostAddr → HostAddr → ℕ → List ℕ → List ℕ → List ℕ → List ℕ → Changed → Type 0
-AddsRegion nx ws fl t a e rights nx' ws' links' gens' r =
-    Changes (add_on t.allowance (stored_at nx ws t.head) a e rights) a e nx ws fl t.head nx' ws' (heap links' gens' r.arena) r.tracker.head
-    (added a e rights (stored_at nx ws t.head)) r.answer × Counts t nx' ws' r.tracker
+abbrev pub AddsRegion : List ℕ → List ℕ → Heap → RegionTracker → HostAddr → HostAddr → ℕ → List ℕ → List ℕ → Heap → RegionTracker → Answer → Type 0
+AddsRegion nx ws fl t a e rights nx' ws' fl' t' r =
+    Changes (add_on t.allowance (stored_at nx ws t.head) a e rights) a e nx ws fl t.head nx' ws' fl' t'.head
+    (added a e rights (stored_at nx ws t.head)) r × Counts t nx' ws' t'
 
-abbrev pub RemovesRegion : List ℕ → List ℕ → Heap → RegionTracker → HostAddr → HostAddr → ℕ → List ℕ → List ℕ → List ℕ → List ℕ → Changed → Type 0
-RemovesRegion nx ws fl t a e rights nx' ws' links' gens' r =
-    Changes (remove_on t.allowance (stored_at nx ws t.head) a e rights) a e nx ws fl t.head nx' ws' (heap links' gens' r.arena) r.tracker.head
-    (removed a e rights (stored_at nx ws t.head)) r.answer × Counts t nx' ws' r.tracker
+abbrev pub RemovesRegion : List ℕ → List ℕ → Heap → RegionTracker → HostAddr → HostAddr → ℕ → List ℕ → List ℕ → Heap → RegionTracker → Answer → Type 0
+RemovesRegion nx ws fl t a e rights nx' ws' fl' t' r =
+    Changes (remove_on t.allowance (stored_at nx ws t.head) a e rights) a e nx ws fl t.head nx' ws' fl' t'.head
+    (removed a e rights (stored_at nx ws t.head)) r × Counts t nx' ws' t'
 
 -- before the first region
 abbrev pub add_begin : ℕ → HostAddr → AddAsk

@@ -1,12 +1,10 @@
 -- The permissions one by one, by a cursor over the records of a list. Assumes nothing.
-use Rattle.std.specs.Prelude.{ℕ, ◌≡◌, List, [], ◌∷◌, map}
+use Rattle.std.specs.Prelude.{ℕ, ◌≡◌, List, [], ◌∷◌, map, Option, None, Some}
 use Rattle.definitions.specs.Regions.{permission_of}
 use Rattle.definitions.specs.declared.region.MemoryPermission.{MemoryPermission}
 use Rattle.capability_engine.specs.PoolChain.{Walkable, stored_at}
 use Rattle.capability_engine.specs.declared.region.RegionTracker.{RegionTracker}
 use Rattle.capability_engine.specs.declared.region.PermissionIterator.{PermissionIterator}
-use Rattle.capability_engine.specs.declared.region.NextPermission.{NextPermission}
-use Rattle.capability_engine.specs.declared.region.NextPermission.TheVariants.{At, End}
 
 -- the permissions still to come: one for each record from the cursor's slot on
 abbrev pub permissions_from : List ℕ → List ℕ → PermissionIterator → List MemoryPermission
@@ -18,6 +16,6 @@ Starts t c = (nx ws : List ℕ) → Walkable nx ws t.head
     → Walkable nx ws c.next × (permissions_from nx ws c ≡ map permission_of (stored_at nx ws t.head))
 
 -- what a step answers at c
-abbrev pub Steps : List ℕ → List ℕ → PermissionIterator → NextPermission → Type 0
-Steps nx ws c End = permissions_from nx ws c ≡ []
-Steps nx ws c (At p d) = (permissions_from nx ws c ≡ p ∷ permissions_from nx ws d) × Walkable nx ws d.next
+abbrev pub Steps : List ℕ → List ℕ → PermissionIterator → Option (MemoryPermission × PermissionIterator) → Type 0
+Steps nx ws c None = permissions_from nx ws c ≡ []
+Steps nx ws c (Some s) = (permissions_from nx ws c ≡ s.0 ∷ permissions_from nx ws s.1) × Walkable nx ws s.1.next

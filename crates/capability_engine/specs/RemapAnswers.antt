@@ -1,5 +1,5 @@
 -- What each call ensures: the definitions' answer, the list that they leave where it is accepted, and where it is refused
--- the very struct that went in. The first questions come to a change, and the change asks the rest and does it.
+-- the very struct that it was. The first questions come to a change, and the change asks the rest and does it.
 use Rattle.std.specs.Prelude.{ℕ, ◌+◌, ◌*◌, ◌≤◌, ◌≡◌, List, [], ◌∷◌, Bool, true, false, not, ◌&&◌, ◌||◌, length, if◌then◌else◌}
 use Rattle.definitions.specs.Tests.{◌<?◌, ◌≤?◌, ◌=?◌, fits, all, any, keep, each}
 use Rattle.definitions.proofs.SegmentLaws.{Good}
@@ -10,39 +10,34 @@ use Rattle.definitions.specs.declared.addr.HostAddr.{HostAddr}
 use Rattle.definitions.specs.declared.addr.GuestAddr.{GuestAddr}
 use Rattle.definitions.specs.declared.remapper.Segment.{Segment}
 use Rattle.definitions.specs.declared.answer.Refusal.TheVariants.{EmptySegment, Overflow, AlreadyAliased, NoSlot, Repeated, OthersTouched}
-use Rattle.definitions.specs.declared.answer.Answer.{Answer}
-use Rattle.definitions.specs.declared.answer.Answer.TheVariants.{Accepted}
+use Rattle.definitions.specs.Answers.{Answer}
+use Rattle.std.specs.Prelude.{Ok}
 use Rattle.capability_engine.specs.declared.remapper.Remapper.{Remapper}
 use Rattle.capability_engine.specs.declared.remapper.Span.{Span}
 use Rattle.capability_engine.specs.declared.remapper.Span.TheVariants.{Host, Guest}
 use Rattle.capability_engine.specs.declared.remapper.Change.{Change}
 use Rattle.capability_engine.specs.declared.remapper.Change.TheVariants.{Keep, Put, Cut}
-use Rattle.capability_engine.specs.declared.remapper.Changed.{Changed}
 use Rattle.capability_engine.specs.declared.remapper.Asked.{Asked}
 use Rattle.capability_engine.specs.RemapHeld.{no_segment, Holds, Sound}
 use Rattle.capability_engine.specs.RemapAsking.{in_range, rear_of, bad_for, last_of}
 
--- a changing call, with the definitions' answer and the list that they leave
-pub record Does (self : Remapper) (a : Answer) (ss : List Segment) (r : Changed) : Type 0 where
-  pub answer : r.answer ≡ a
-  pub after : accepted a ≡ true → Holds r.remapper ss
-  pub kept : accepted a ≡ false → r.remapper ≡ self
-
--- it is accepted, and this is the remapper after it
-abbrev pub done : Remapper → Changed
-done out = record { answer = Accepted 0; remapper = out }
+-- a changing call, with the definitions' answer and the list that they leave; out is the remapper after it
+pub record Does (self : Remapper) (a : Answer) (ss : List Segment) (out : Remapper) (r : Answer) : Type 0 where
+  pub answer : r ≡ a
+  pub after : accepted a ≡ true → Holds out ss
+  pub kept : accepted a ≡ false → out ≡ self
 
 -- a new segment is asked 11 and 12, and not stored where it shows an identity
 abbrev pub on_insert : Segment → List Segment → Answer
 on_insert s ss =
     ask ((not (overlaps s.gpa (s.size * s.repeat) ss), AlreadyAliased) ∷ [])
-    (if is_identity s.hpa s.gpa s.repeat then Accepted 0 else ask ((length ss <? 64, NoSlot) ∷ []) (Accepted 0))
+    (if is_identity s.hpa s.gpa s.repeat then Ok 0 else ask ((length ss <? 64, NoSlot) ∷ []) (Ok 0))
 
 abbrev pub inserted : Segment → List Segment → List Segment
 inserted s ss = mapped s.hpa s.gpa s.size s.repeat ss
 
-abbrev pub Inserts : Remapper → Segment → Changed → Type 0
-Inserts self s r = (ss : List Segment) → Holds self ss → Does self (on_insert s ss) (inserted s ss) r
+abbrev pub Inserts : Remapper → Segment → Remapper → Answer → Type 0
+Inserts self s out r = (ss : List Segment) → Holds self ss → Does self (on_insert s ss) (inserted s ss) out r
 
 -- a range that is not empty is cut out
 abbrev pub cut_to : Span → List Segment → List Segment
@@ -57,7 +52,7 @@ pub record Builds (p : Span) (u : Segment) (ss : List Segment) : Type 0 where
 
 -- the questions of unmap_range from 12 on, and of unmap_gpa_range from 15 on
 unfoldable pub on_host : List Segment → HostAddr → HostAddr → Answer
-on_host ss a e = ask ((length (cut_to (Host a e) ss) ≤? 64, NoSlot) ∷ []) (Accepted 0)
+on_host ss a e = ask ((length (cut_to (Host a e) ss) ≤? 64, NoSlot) ∷ []) (Ok 0)
 
 unfoldable pub on_span : List Segment → GuestAddr → GuestAddr → Answer
 on_span ss a e =
@@ -65,14 +60,14 @@ on_span ss a e =
     ((all (λ s. span_whole a e s || (s.repeat =? 1)) (keep (touched a e) ss), Repeated)
     ∷ (not (any (span_inside a e) ss) || (length (keep (touched a e) ss) =? 1), OthersTouched)
     ∷ (length (cut_to (Guest a e) ss) ≤? 64, NoSlot) ∷ [])
-    (Accepted 0)
+    (Ok 0)
 
 abbrev pub on_cut : Span → List Segment → Answer
 on_cut (Host a e) ss = on_host ss a e
 on_cut (Guest a e) ss = on_span ss a e
 
-abbrev pub CutsOut : Remapper → Span → Changed → Type 0
-CutsOut self p r = (ss : List Segment) → Sound self ss → Does self (on_cut p ss) (cut_to p ss) r
+abbrev pub CutsOut : Remapper → Span → Remapper → Answer → Type 0
+CutsOut self p out r = (ss : List Segment) → Sound self ss → Does self (on_cut p ss) (cut_to p ss) out r
 
 -- what is still to be asked and done is what the call asks and does
 pub record ToPut (self : Remapper) (a : Answer) (ss : List Segment) (s : Segment) : Type 0 where
@@ -90,7 +85,7 @@ pub record ToCut (self : Remapper) (a : Answer) (ss : List Segment) (p : Span) :
   pub leaves : cut_to p before ≡ ss
 
 abbrev pub Decides : Remapper → Answer → List Segment → Change → Type 0
-Decides self a ss (Keep x) = Does self a ss (record { remapper = self; answer = x })
+Decides self a ss (Keep x) = Does self a ss self x
 Decides self a ss (Put s) = ToPut self a ss s
 Decides self a ss (Cut p) = ToCut self a ss p
 
@@ -114,12 +109,12 @@ unfoldable pub can_map : HostAddr → GuestAddr → ℕ → ℕ → Answer
 can_map h g n t =
     ask
     (((1 ≤? n) && (1 ≤? t), EmptySegment) ∷ (fits (n * t) && fits (g.0 + n * t) && fits (h.0 + n), Overflow) ∷ [])
-    (Accepted 0)
+    (Ok 0)
 
 -- of an empty list, or of size 0, nothing is asked; 1 to go on
 unfoldable pub can_start : Bool → GuestAddr → ℕ → Answer
-can_start empty g n = if empty || (n =? 0) then Accepted 0 else ask ((fits (g.0 + n), Overflow) ∷ []) (Accepted 1)
+can_start empty g n = if empty || (n =? 0) then Ok 0 else ask ((fits (g.0 + n), Overflow) ∷ []) (Ok 1)
 
 -- of an unmap: behind 15, question 16 gets a yes
 unfoldable pub can_cut : Asked → Answer
-can_cut k = ask ((not k.bad, Repeated) ∷ (k.left + k.moved ≤? 64, NoSlot) ∷ []) (Accepted 0)
+can_cut k = ask ((not k.bad, Repeated) ∷ (k.left + k.moved ≤? 64, NoSlot) ∷ []) (Ok 0)

@@ -1,5 +1,5 @@
 -- What the unmaps want to know of the list, and what one segment becomes. Both kinds of range in one.
-use Rattle.std.specs.Prelude.{◌+◌, ◌-◌, ◌<◌, List, [], ◌∷◌, Bool, false, not, ◌&&◌, ◌||◌, length, if◌then◌else◌}
+use Rattle.std.specs.Prelude.{◌+◌, ◌-◌, ◌<◌, List, [], ◌∷◌, Bool, false, not, ◌&&◌, ◌||◌, length, Option, None, Some, if◌then◌else◌}
 use Rattle.definitions.specs.Tests.{◌<?◌, ◌≤?◌, ◌=?◌}
 use Rattle.definitions.specs.Segments.{front, host_touched, touched, span_whole}
 use Rattle.definitions.proofs.WalkLaws.{left_in, rear_in}
@@ -8,8 +8,6 @@ use Rattle.definitions.specs.declared.remapper.Segment.{Segment}
 use Rattle.capability_engine.specs.RemapHeld.{no_segment}
 use Rattle.capability_engine.specs.declared.remapper.Span.{Span}
 use Rattle.capability_engine.specs.declared.remapper.Span.TheVariants.{Host, Guest}
-use Rattle.capability_engine.specs.declared.remapper.Left.{Left}
-use Rattle.capability_engine.specs.declared.remapper.Left.TheVariants.{Gone, Kept}
 use Rattle.capability_engine.specs.declared.remapper.Reach.{Reach}
 use Rattle.capability_engine.specs.declared.remapper.Asked.{Asked}
 
@@ -31,8 +29,8 @@ unfoldable pub rear_of : Span → Segment → List Segment
 rear_of p s = rear_in (reach_of p s).touches (reach_of p s).to s
 
 -- by the tests that the code makes
-unfoldable pub leaves : Reach → Segment → Left
-leaves r s = if r.touches then (if 1 ≤? r.from then Kept (front r.from s) else Gone) else Kept s
+unfoldable pub leaves : Reach → Segment → Option Segment
+leaves r s = if r.touches then (if 1 ≤? r.from then Some (front r.from s) else None) else Some s
 
 unfoldable pub stays : Reach → Bool
 stays r = not r.touches || (1 ≤? r.from)

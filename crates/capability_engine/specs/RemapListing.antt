@@ -1,10 +1,8 @@
 -- The segments one by one, by a cursor, and all of them as numbers, four for each.
-use Rattle.std.specs.Prelude.{ℕ, ◌≡◌, List, [], ◌∷◌, length}
+use Rattle.std.specs.Prelude.{ℕ, ◌≡◌, List, [], ◌∷◌, length, Option, None, Some as Found}
 use Rattle.definitions.specs.declared.remapper.Segment.{Segment}
 use Rattle.capability_engine.specs.declared.remapper.Remapper.{Remapper}
 use Rattle.capability_engine.specs.declared.remapper.RemapperSegmentIterator.{RemapperSegmentIterator}
-use Rattle.capability_engine.specs.declared.remapper.NextSegment.{NextSegment}
-use Rattle.capability_engine.specs.declared.remapper.NextSegment.TheVariants.{At, End}
 use Rattle.capability_engine.specs.RemapHeld.{Holds, Zip}
 use Rattle.capability_engine.specs.SegmentWords.{segments_from}
 
@@ -27,12 +25,12 @@ abbrev pub Starts : Remapper → RemapperSegmentIterator → Type 0
 Starts r c = (ss : List Segment) → Holds r ss → Ahead r c ss
 
 -- what a step comes to, with these segments before the cursor
-abbrev pub Comes : Remapper → List Segment → NextSegment → Type 0
-Comes r [] n = n ≡ End
-Comes r (s ∷ ts) n = (d : RemapperSegmentIterator) × (n ≡ At s d) × Ahead r d ts
+abbrev pub Comes : Remapper → List Segment → Option (Segment × RemapperSegmentIterator) → Type 0
+Comes r [] n = n ≡ None
+Comes r (s ∷ ts) n = (d : RemapperSegmentIterator) × (n ≡ Found (s, d)) × Ahead r d ts
 
 -- a step comes to the first of them
-abbrev pub Steps : Remapper → RemapperSegmentIterator → NextSegment → Type 0
+abbrev pub Steps : Remapper → RemapperSegmentIterator → Option (Segment × RemapperSegmentIterator) → Type 0
 Steps r c n = (ts : List Segment) → Ahead r c ts → Comes r ts n
 
 -- the slice holds the segments, in order, and its length is as it was

@@ -8,7 +8,6 @@ use Rattle.definitions.specs.declared.call.Call.{Call}
 use Rattle.definitions.specs.declared.call.Call.TheVariants.{Mappings}
 use Rattle.lines.specs.Lines.{lines_with}
 use Rattle.capability_engine.specs.declared.script.Script.{Script}
-use Rattle.capability_engine.specs.declared.script.Fed.{Fed}
 use Rattle.capability_engine.specs.declared.compartments.Tables.{Tables}
 use Rattle.capability_engine.specs.CompartmentGrown.{Grown}
 
@@ -38,29 +37,31 @@ begun = record {
 -- a piece is taken: what is written, and that with what is due after it this is what was due before. Left free: how far a full
 -- output lets the piece be taken, the line's bytes behind those that are held, and `from` where nothing is owed
 pub record Feeds (calls : List Call) (c : Script) (input out : List ℕ) (at : ℕ)
-    (words' next' links' gens' out' : List ℕ) (r : Fed) : Type 0 where
+    (words' next' links' gens' out' : List ℕ) (t' : Tables) (c' : Script) : Type 0 where
   pub later : List Call
-  pub grown : Grown words' next' links' gens' r.tables later
+  pub grown : Grown words' next' links' gens' t' later
   pub lines : List (List ℕ)
-  pub prints : (more : List ℕ) → due (after calls) c (input ++ more) ≡ lines ++ due (after later) r.script (drop r.script.progress.used input ++ more)
-  pub leaves : (more : List ℕ) → comes (after calls) c (input ++ more) ≡ comes (after later) r.script (drop r.script.progress.used input ++ more)
+  pub prints : (more : List ℕ) → due (after calls) c (input ++ more) ≡ lines ++ due (after later) c' (drop c'.progress.used input ++ more)
+  pub leaves : (more : List ℕ) → comes (after calls) c (input ++ more) ≡ comes (after later) c' (drop c'.progress.used input ++ more)
   pub text : out' ≡ sets out at (each (λ l. l) lines)
-  pub end : r.script.progress.at ≡ at + length (each (λ l. l) lines)
-  pub many : r.script.progress.lines ≡ length lines
-  pub fits : at ≤ length out → r.script.progress.at ≤ length out
-  pub taken : r.script.progress.used ≤ length input
+  pub end : c'.progress.at ≡ at + length (each (λ l. l) lines)
+  pub many : c'.progress.lines ≡ length lines
+  pub fits : at ≤ length out → c'.progress.at ≤ length out
+  -- the line keeps its room
+  pub room : length c'.line ≡ length c.line
+  pub taken : c'.progress.used ≤ length input
   -- it stops where all is taken and nothing is owed, or where the next line does not fit
-  pub whole : r.script.progress.full ≡ false → (r.script.progress.used ≡ length input) × (r.script.progress.compartment ≡ 8)
-  pub stuck : r.script.progress.full ≡ true → (more : List ℕ)
-      → (whole_lines (length out - r.script.progress.at) (due (after later) r.script (drop r.script.progress.used input ++ more)) ≡ [])
+  pub whole : c'.progress.full ≡ false → (c'.progress.used ≡ length input) × (c'.progress.compartment ≡ 8)
+  pub stuck : c'.progress.full ≡ true → (more : List ℕ)
+      → (whole_lines (length out - c'.progress.at) (due (after later) c' (drop c'.progress.used input ++ more)) ≡ [])
   -- some of it is taken, where no P is owed and there is room for an answer
-  pub ahead : 8 ≤ c.progress.compartment → at + 25 ≤ length out → 1 ≤ length input → 1 ≤ r.script.progress.used
+  pub ahead : 8 ≤ c.progress.compartment → at + 25 ≤ length out → 1 ≤ length input → 1 ≤ c'.progress.used
 
 -- a piece is run for what it leaves
-pub record Runs (calls : List Call) (c : Script) (input words' next' links' gens' : List ℕ) (r : Fed) : Type 0 where
+pub record Runs (calls : List Call) (c : Script) (input words' next' links' gens' : List ℕ) (t' : Tables) (c' : Script) : Type 0 where
   pub later : List Call
-  pub grown : Grown words' next' links' gens' r.tables later
-  pub leaves : (more : List ℕ) → comes (after calls) c (input ++ more) ≡ comes (after later) r.script more
+  pub grown : Grown words' next' links' gens' t' later
+  pub leaves : (more : List ℕ) → comes (after calls) c (input ++ more) ≡ comes (after later) c' more
 
 -- and a whole script
 pub record Replays (calls : List Call) (script words' next' links' gens' : List ℕ) (t : Tables) : Type 0 where

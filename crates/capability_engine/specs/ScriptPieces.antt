@@ -5,7 +5,7 @@ use Rattle.definitions.specs.Tests.{each}
 use Rattle.definitions.specs.Script.{heading, output_of}
 use Rattle.definitions.specs.declared.call.Call.{Call}
 use Rattle.capability_engine.specs.declared.script.Script.{Script}
-use Rattle.capability_engine.specs.declared.script.Fed.{Fed}
+use Rattle.capability_engine.specs.declared.compartments.Tables.{Tables}
 use Rattle.capability_engine.specs.ScriptFeed.{held, begun, Feeds}
 
 abbrev pub joined : List (List ℕ) → List ℕ
@@ -15,10 +15,10 @@ joined pieces = each (λ piece. piece) pieces
 -- written, joined.
 pub data Writes : List Call → Script → List ℕ → List (List ℕ) → List ℕ → Type 0 where
   -- what is not taken is fed, from the beginning of a slice, and what stands there up to the end answered is written
-  fed : {calls : List Call} {c : Script} {bytes : List ℕ} {pieces : List (List ℕ)} {later out words next links gens out' : List ℕ} {r : Fed}
-      → (f : Feeds calls c bytes out 0 words next links gens out' r)
-      → Writes f.later r.script (drop r.script.progress.used bytes) pieces later
-      → Writes calls c bytes pieces (take r.script.progress.at out' ++ later)
+  fed : {calls : List Call} {c : Script} {bytes : List ℕ} {pieces : List (List ℕ)} {later out words next links gens out' : List ℕ} {t : Tables} {c' : Script}
+      → (f : Feeds calls c bytes out 0 words next links gens out' t c')
+      → Writes f.later c' (drop c'.progress.used bytes) pieces later
+      → Writes calls c bytes pieces (take c'.progress.at out' ++ later)
   -- all is taken, and the next piece comes
   arrives : {calls : List Call} {c : Script} {piece : List ℕ} {pieces : List (List ℕ)} {later : List ℕ}
       → Writes calls c piece pieces later → Writes calls c [] (piece ∷ pieces) later

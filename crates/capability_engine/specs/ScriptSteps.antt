@@ -4,28 +4,28 @@ use Rattle.std.proofs.lemmas.List.Edits.{sets}
 use Rattle.definitions.specs.Tests.{◌≤?◌, each}
 use Rattle.definitions.specs.Reckoning.{Compartment, compartment_of}
 use Rattle.definitions.specs.Regions.{regions}
-use Rattle.definitions.specs.Calls.{State, stream_of, answer, next}
+use Rattle.definitions.specs.Calls.{State, stream_of, answer, next, after}
 use Rattle.definitions.specs.Script.{call, answer_line, mapping_line, printed, output_from, left_from, whole_lines}
 use Rattle.definitions.specs.declared.answer.Refusal.TheVariants.{NoCompartment}
 use Rattle.definitions.specs.declared.answer.Refusal.TheVariants as refusal
-use Rattle.definitions.specs.declared.answer.Answer.TheVariants.{Accepted, Refused}
+use Rattle.std.specs.Prelude.{Ok, Err, Option, Some, None}
 use Rattle.definitions.specs.declared.call.Call.{Call}
 use Rattle.definitions.specs.declared.call.Call.TheVariants.{Add, Remove, Refcount, Overlaps, Map, Unmap, UnmapGpa, Permissions, Remap, Mappings}
 use Rattle.definitions.specs.declared.call.Call.TheVariants as spoken
 use Rattle.lines.specs.Lines.{lines_with}
-use Rattle.lines.specs.declared.Line.{Line}
-use Rattle.lines.specs.declared.Line.TheVariants as line
 use Rattle.capability_engine.specs.declared.region.RegionTracker.{RegionTracker}
 use Rattle.capability_engine.specs.declared.remapper.Remapper.{Remapper}
 use Rattle.capability_engine.specs.declared.script.Progress.{Progress}
-use Rattle.capability_engine.specs.declared.script.Heard.{Heard}
 use Rattle.capability_engine.specs.declared.script.Task.{Task}
 use Rattle.capability_engine.specs.declared.script.Task.TheVariants.{Tell, Regions, Segments, Print, Nothing, Allow}
 use Rattle.capability_engine.specs.PoolChain.{stored_at}
 use Rattle.capability_engine.specs.RemapHeld.{Holds}
 use Rattle.capability_engine.specs.RemapListing.{Copied}
 use Rattle.capability_engine.specs.StreamCursor.{Whole, Table}
-use Rattle.capability_engine.specs.CompartmentSteps.{on_regions, on_segments}
+use Rattle.capability_engine.specs.declared.compartments.Tables.{Tables}
+use Rattle.capability_engine.specs.CompartmentGrown.{Grown}
+use Rattle.capability_engine.specs.CompartmentSteps.{on_regions, on_segments, OnOne}
+use Rattle.capability_engine.specs.ScriptFeed.{owed}
 
 -- ---- what a line asks for
 
@@ -43,9 +43,12 @@ task_in (Permissions k i n) = Regions k (Permissions k i n)
 task_in (Remap k i n) = Regions k (Remap k i n)
 task_in (spoken.Allow k n) = Allow k n
 
-abbrev pub task_of : Line → Task
-task_of (line.Call c) = if 8 ≤? compartment_of c then Tell (Refused NoCompartment) else task_in c
-task_of line.Malformed = Tell (Refused refusal.Malformed)
+abbrev pub task_for : Call → Task
+task_for c = if 8 ≤? compartment_of c then Tell (Err NoCompartment) else task_in c
+
+abbrev pub task_of : Option Call → Task
+task_of (Some c) = task_for c
+task_of None = Tell (Err refusal.Malformed)
 
 -- what it prints, and what it leaves
 unfoldable pub task_prints : State → Task → List (List ℕ)
@@ -67,23 +70,36 @@ task_leaves s (Allow i n) = next s (spoken.Allow i n)
 -- the call is one of its kind, on a compartment that there is
 abbrev pub Sound : Task → Type 0
 Sound (Tell a) = Unit {0}
-Sound (Regions i c) = (compartment_of c ≡ i) × (i < 8) × (on_regions c ≡ true)
-Sound (Segments i c) = (compartment_of c ≡ i) × (i < 8) × (on_segments c ≡ true)
+Sound (Regions i c) = OnOne i c (on_regions c)
+Sound (Segments i c) = OnOne i c (on_segments c)
 Sound (Print i) = i < 8
 Sound Nothing = Unit {0}
 Sound (Allow i n) = i < 8
 
+-- as many bytes are held, and the piece is taken so far
+abbrev pub moved : Progress → ℕ → ℕ → Progress
+moved p len used = record {
+  len = len;
+  compartment = p.compartment;
+  from = p.from;
+  used = used;
+  at = p.at;
+  lines = p.lines;
+  full = p.full;
+}
+
 -- bytes are taken: what the script prints with any others behind them is what the task does, and then the rest
-pub record Hears (line line' : List ℕ) (len : ℕ) (input : List ℕ) (used : ℕ) (h : Heard) : Type 0 where
+pub record Hears (line line' : List ℕ) (p : Progress) (input : List ℕ) (r : Progress) (task : Task) : Type 0 where
   pub size : length line' ≡ 88
-  pub short : h.len ≤ 88
-  pub ahead : used < h.used
-  pub taken : h.used ≤ length input
-  pub sound : Sound h.task
-  pub prints : (s : State) (more : List ℕ) → output_from s (lines_with (take len line) (drop used input ++ more))
-      ≡ task_prints s h.task ++ output_from (task_leaves s h.task) (lines_with (take h.len line') (drop h.used input ++ more))
-  pub leaves : (s : State) (more : List ℕ) → left_from s (lines_with (take len line) (drop used input ++ more))
-      ≡ left_from (task_leaves s h.task) (lines_with (take h.len line') (drop h.used input ++ more))
+  pub same : r ≡ moved p r.len r.used
+  pub short : r.len ≤ 88
+  pub ahead : p.used < r.used
+  pub taken : r.used ≤ length input
+  pub sound : Sound task
+  pub prints : (s : State) (more : List ℕ) → output_from s (lines_with (take p.len line) (drop p.used input ++ more))
+      ≡ task_prints s task ++ output_from (task_leaves s task) (lines_with (take r.len line') (drop r.used input ++ more))
+  pub leaves : (s : State) (more : List ℕ) → left_from s (lines_with (take p.len line) (drop p.used input ++ more))
+      ≡ left_from (task_leaves s task) (lines_with (take r.len line') (drop r.used input ++ more))
 
 -- ---- what is written
 
@@ -124,7 +140,7 @@ pub record Prints (ls : List (List ℕ)) (out out' : List ℕ) (p r : Progress) 
 
 -- the lines of a P of a compartment
 unfoldable pub lines_on : Compartment → List (List ℕ)
-lines_on c = answer_line (Accepted (length (stream_of c))) ∷ map mapping_line (stream_of c)
+lines_on c = answer_line (Ok (length (stream_of c))) ∷ map mapping_line (stream_of c)
 
 -- a tracker and a remapper hold a compartment
 pub record Shows (words next : List ℕ) (t : RegionTracker) (m : Remapper) (c : Compartment) : Type 0 where
@@ -135,6 +151,22 @@ pub record Shows (words next : List ℕ) (t : RegionTracker) (m : Remapper) (c :
 
 abbrev pub IsShown : List ℕ → List ℕ → RegionTracker → Remapper → Type 0
 IsShown words next t m = (c : Compartment) × Shows words next t m c
+
+-- ---- a task is done
+
+-- from what these calls left: the lines that it prints are written, or owed, and other calls leave what it leaves
+pub record Performs (calls : List Call) (task : Task) (out : List ℕ) (p : Progress)
+    (words' next' links' gens' : List ℕ) (t' : Tables) (out' : List ℕ) (r : Progress) : Type 0 where
+  pub later : List Call
+  pub grown : Grown words' next' links' gens' t' later
+  pub lines : List (List ℕ)
+  pub adds : Adds lines out out' p r
+  pub prints : task_prints (after calls) task ≡ lines ++ owed (after later) r.compartment r.from
+  pub left : after later ≡ task_leaves (after calls) task
+  pub len : r.len ≡ p.len
+  pub used : r.used ≡ p.used
+  pub full : r.full ≡ p.full
+  pub nobody : r.compartment ≤ 8
 
 -- ---- a piece
 

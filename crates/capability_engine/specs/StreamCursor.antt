@@ -1,5 +1,5 @@
 -- What a cursor stands for, and what a turn of it does. Assumes nothing.
-use Rattle.std.specs.Prelude.{ℕ, ◌+◌, ◌-◌, ◌*◌, ◌^◌, ◌≤◌, ◌<◌, min, max, ◌≡◌, Bool, true, ◌&&◌, ◌⊎◌, List, [], ◌∷◌, ◌++◌, length, if◌then◌else◌}
+use Rattle.std.specs.Prelude.{ℕ, ◌+◌, ◌-◌, ◌*◌, ◌^◌, ◌≤◌, ◌<◌, min, max, ◌≡◌, Bool, true, ◌&&◌, Option, None, Some, ◌⊎◌, List, [], ◌∷◌, ◌++◌, length, if◌then◌else◌}
 use Rattle.definitions.specs.Tests.{◌<?◌, ◌=?◌, host}
 use Rattle.definitions.specs.Regions.{region}
 use Rattle.definitions.specs.Segments.{host_end, in_order}
@@ -16,8 +16,6 @@ use Rattle.capability_engine.specs.PoolChain.{slots, Listed, stored_at}
 use Rattle.capability_engine.specs.SegmentWords.{segment_at, segments_from}
 use Rattle.capability_engine.specs.StreamFlow.{flow, Rising, Past, left}
 use Rattle.capability_engine.specs.declared.stream.RemapCursor.{RemapCursor}
-use Rattle.capability_engine.specs.declared.stream.Step.{Step}
-use Rattle.capability_engine.specs.declared.stream.Step.TheVariants.{Found, Done}
 use Rattle.capability_engine.specs.declared.stream.Turn.{Turn}
 use Rattle.capability_engine.specs.declared.stream.Turn.TheVariants.{Yields, Skips, Ends}
 
@@ -109,11 +107,15 @@ Turned nx ws sg n c (Skips d) =
     (remaining nx ws sg n c ≡ remaining nx ws sg n d) × Ready nx ws sg n d × (to_go nx ws sg n d < to_go nx ws sg n c)
     × (Kept c d ⊎ (d ≡ begins c (segment_at sg c.segment)))
 
+-- the next mapping with the cursor behind it, or the end
+abbrev pub Step : Type 0
+Step = Option (Mapping × RemapCursor)
+
 -- what a step answers at c
 abbrev pub Says : List ℕ → List ℕ → List ℕ → ℕ → RemapCursor → Step → Type 0
-Says nx ws sg n c Done = remaining nx ws sg n c ≡ []
-Says nx ws sg n c (Found m d) =
-    (remaining nx ws sg n c ≡ m ∷ remaining nx ws sg n d) × Ready nx ws sg n d × (to_go nx ws sg n d ≤ to_go nx ws sg n c)
+Says nx ws sg n c None = remaining nx ws sg n c ≡ []
+Says nx ws sg n c (Some y) =
+    (remaining nx ws sg n c ≡ y.0 ∷ remaining nx ws sg n y.1) × Ready nx ws sg n y.1 × (to_go nx ws sg n y.1 ≤ to_go nx ws sg n c)
 
 -- before the first mapping of the records from a slot on
 abbrev pub at_start : ℕ → RemapCursor

@@ -2,7 +2,7 @@
 -- the end, what document 02 says of two runs: order 4, `Independent`, proved as `independent_streams`, order 11, `Loan`, proved as
 -- `handed_back`, and order 13, `SamePlans`, `Layout` and `NoLayout`, proved as `same_plans`, `yields_the_wish` and `no_script`.
 -- Nothing is assumed but what the functions promise.
-use Rattle.std.specs.Prelude.{ℕ, ◌+◌, ◌*◌, ◌/◌, ◌^◌, ◌<◌, ◌≤◌, ◌≡◌, Bool, true, false, ◌&&◌, List, [], ◌∷◌, ◌++◌, map, length, get_or, take, drop}
+use Rattle.std.specs.Prelude.{ℕ, ◌+◌, ◌*◌, ◌/◌, ◌^◌, ◌<◌, ◌≤◌, ◌≡◌, Bool, true, false, ◌&&◌, List, [], ◌∷◌, ◌++◌, map, length, get_or, take, drop, Some, None}
 use Rattle.definitions.specs.Tests.{◌=?◌, fits, each, all}
 use Rattle.definitions.specs.Rights.{Right}
 use Rattle.definitions.specs.Stream.{stream}
@@ -18,21 +18,19 @@ use Rattle.definitions.specs.Planner.{wanted, plan, adds, changes}
 use Rattle.definitions.specs.declared.addr.HostAddr.{HostAddr}
 use Rattle.definitions.specs.declared.remapper.Segment.{Segment}
 use Rattle.definitions.specs.declared.remapper.Mapping.{Mapping}
-use Rattle.definitions.specs.declared.answer.Answer.{Answer}
+use Rattle.definitions.specs.Answers.{Answer}
 use Rattle.definitions.specs.declared.answer.Refusal.TheVariants.{NoScript}
-use Rattle.definitions.specs.declared.answer.Answer.TheVariants.{Accepted, Refused}
+use Rattle.std.specs.Prelude.{Ok, Err}
 use Rattle.definitions.specs.declared.call.Call.{Call}
 use Rattle.definitions.specs.declared.call.Call.TheVariants.{Add, Remove, Permissions, Remap}
 use Rattle.capability_engine.specs.declared.remapper.Remapper.{Remapper}
 use Rattle.capability_engine.specs.declared.stream.RemapCursor.{RemapCursor}
-use Rattle.capability_engine.specs.declared.stream.Step.{Step}
-use Rattle.capability_engine.specs.declared.stream.Step.TheVariants.{Found, Done}
 use Rattle.capability_engine.specs.declared.compartments.Tables.{Tables}
 use Rattle.capability_engine.specs.PoolChain.{stored_at}
 use Rattle.capability_engine.specs.RemapHeld.{Holds}
 use Rattle.capability_engine.specs.RemapListing.{Copied}
 use Rattle.capability_engine.specs.SegmentWords.{segments_from}
-use Rattle.capability_engine.specs.StreamCursor.{Table, Whole, Ready, remaining, Says}
+use Rattle.capability_engine.specs.StreamCursor.{Table, Whole, Ready, remaining, Step, Says}
 use Rattle.capability_engine.specs.CompartmentGrown.{Grown, Creates, Answers, AnswersBundle, Reads, ReadsPage, ReadsPlan}
 use Rattle.capability_engine.specs.CompartmentSteps.{no_tracker}
 
@@ -53,7 +51,7 @@ abbrev pub Changes : Call → Memory → Memory → Answer → Type 0
 Changes call m m' a =
     (calls : List Call) → GrownBy m calls
     → Answers calls call m.words m.next m.links m.gens m.tables
-    m'.words m'.next m'.links m'.gens (record { tables = m'.tables; answer = a })
+    m'.words m'.next m'.links m'.gens m'.tables a
 
 abbrev pub Asks : Call → Memory → Answer → Type 0
 Asks call m a =
@@ -64,7 +62,7 @@ abbrev pub Bundles : ℕ → List ℕ → Memory → Memory → Answer → Type 
 Bundles k ns m m' a =
     (calls : List Call) → GrownBy m calls
     → AnswersBundle calls k ns m.words m.next m.links m.gens m.tables
-    m'.words m'.next m'.links m'.gens (record { tables = m'.tables; answer = a })
+    m'.words m'.next m'.links m'.gens m'.tables a
 
 -- What `plan` of the crate planning promises of a page of the script for a layout that is wanted in compartment k of m.
 abbrev pub Plans : ℕ → List ℕ → ℕ → Memory → List ℕ → List ℕ → Answer → Type 0
@@ -74,7 +72,7 @@ Plans k ns from m out out' a = (calls : List Call) → GrownBy m calls → Reads
 -- first, each with whether it was accepted.
 pub data Ran : Memory → List (RunStep × Bool) → Type 0 where
   new : {m : Memory} {links gens : List ℕ}
-      → Creates m.words m.next links gens m.links m.gens (record { tables = m.tables; done = true })
+      → Creates m.words m.next links gens m.links m.gens (Some m.tables)
       → Ran m []
   changed : {m m' : Memory} {heard : List (RunStep × Bool)} {call : Call} {a : Answer}
       → Ran m heard → Changes call m m' a → Ran m' (heard ++ ((single call, accepted a) ∷ []))
@@ -93,12 +91,12 @@ Page m k from out out' a =
 pub data Paged (m : Memory) (k : ℕ) : ℕ → List ℕ → Type 0 where
   none : Paged m k 0 []
   more : {from many : ℕ} {got out out' : List ℕ}
-      → Paged m k from got → Page m k from out out' (Accepted many) → Paged m k (from + many) (got ++ take (5 * many) out')
+      → Paged m k from got → Page m k from out out' (Ok many) → Paged m k (from + many) (got ++ take (5 * many) out')
 
 -- Until one answers fewer than fit its slice.
 pub data ByPages (m : Memory) (k : ℕ) : List ℕ → Type 0 where
   last : {from many : ℕ} {got out out' : List ℕ}
-      → Paged m k from got → Page m k from out out' (Accepted many) → many < length out / 5
+      → Paged m k from got → Page m k from out out' (Ok many) → many < length out / 5
       → ByPages m k (got ++ take (5 * many) out')
 
 -- What copy_segments promises: the segments that a remapper holds are n groups of four numbers in a copy.
@@ -123,13 +121,13 @@ pub data Stepped (m : Memory) (k : ℕ) (copy : List ℕ) (n : ℕ) : RemapCurso
       → Begins m.next m.words copy n (get_or m.tables.trackers k no_tracker).head c
       → Stepped m k copy n c []
   more : {c d : RemapCursor} {x : Mapping} {found : List Mapping}
-      → Stepped m k copy n c found → Steps m.next m.words copy n c (Found x d)
+      → Stepped m k copy n c found → Steps m.next m.words copy n c (Some (x, d))
       → Stepped m k copy n d (found ++ (x ∷ []))
 
 -- Until none.
 pub data ByCursor (m : Memory) (k : ℕ) : List Mapping → Type 0 where
   last : {copy : List ℕ} {n : ℕ} {c : RemapCursor} {found : List Mapping}
-      → Stepped m k copy n c found → Steps m.next m.words copy n c Done → ByCursor m k found
+      → Stepped m k copy n c found → Steps m.next m.words copy n c None → ByCursor m k found
 
 -- The stream that is read of compartment k is the stream of c, whichever way, and it agrees with c at every host address. So
 -- whoever reads it gets each right back exactly where c leaves it (document 02, order 10, of the device right).
@@ -208,7 +206,7 @@ PermissionsPage m k from out out' a =
 
 -- The compartment's permission list is read, as numbers: by a page that answers fewer than fit its slice.
 pub data Listed (m : Memory) (k : ℕ) : List ℕ → Type 0 where
-  whole : {many : ℕ} {out out' : List ℕ} → PermissionsPage m k 0 out out' (Accepted many) → many < length out / 3
+  whole : {many : ℕ} {out out' : List ℕ} → PermissionsPage m k 0 out out' (Ok many) → many < length out / 3
       → Listed m k (take (3 * many) out')
 
 -- A page of a plan is the same after any two runs that leave compartment k the same allowance: order 4 for plans, and of a loan
@@ -228,7 +226,7 @@ pub record Yields (k : ℕ) (ns : List ℕ) (n : Memory) (added : List (RunStep 
 abbrev pub Layout : Type 0
 Layout =
     (m n : Memory) (heard added : List (RunStep × Bool)) (k : ℕ) (ns : List ℕ) (from many : ℕ) (out out' : List ℕ) → all fits ns ≡ true
-    → Ran m heard → reckoning k (steps_fed heard) ≡ empty → Plans k ns from m out out' (Accepted many)
+    → Ran m heard → reckoning k (steps_fed heard) ≡ empty → Plans k ns from m out out' (Ok many)
     → Ran n (heard ++ added) → steps_of added ≡ map single (adds k (plan (wanted ns))) → Yields k ns n added
 
 -- is it an add or a remove for compartment k?
@@ -241,5 +239,5 @@ changes_in k (bundle j ns) = false
 abbrev pub NoLayout : Type 0
 NoLayout =
     (m n : Memory) (heard added : List (RunStep × Bool)) (k : ℕ) (ns : List ℕ) (from : ℕ) (out out' : List ℕ)
-    → Ran m heard → reckoning k (steps_fed heard) ≡ empty → Plans k ns from m out out' (Refused NoScript)
+    → Ran m heard → reckoning k (steps_fed heard) ≡ empty → Plans k ns from m out out' (Err NoScript)
     → Ran n (heard ++ added) → all (λ h. changes_in k h.0 && h.1) added ≡ true → Listed n k ns → ⊥

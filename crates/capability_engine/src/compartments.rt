@@ -1,22 +1,23 @@
 // The eight compartments over one pool, and the calls on them. The pool is lent as four slices (see region.rt), all of which
 // new checks; what was grown from there is what every other call asks for.
-ghost use Rattle.std.specs.Prelude.{◌≡◌, true, List, ◌<◌, ◌≤◌, length};
+ghost use Rattle.std.specs.Prelude.{◌≡◌, true, List, ◌<◌, ◌≤◌, length, IfOk, IfErr};
 ghost use Rattle.definitions.specs.Pages.{record_len};
 ghost use Rattle.definitions.specs.Calls.{together, stream_groups, permission_groups, region_groups, segment_groups};
+ghost use Rattle.definitions.specs.declared.answer.Refusal.TheVariants.{NoCompartment};
 ghost use Rattle.definitions.specs.declared.call.Call.{Call};
 ghost use Rattle.definitions.specs.declared.call.Call.TheVariants.{Add, Remove, Refcount, Overlaps, Map, Unmap, UnmapGpa, Permissions, Remap, Allow};
 ghost use Rattle.capability_engine.specs.PoolOwn.{heap};
 ghost use Rattle.capability_engine.specs.RegionAsks.{Allotted};
 ghost use Rattle.capability_engine.specs.RemapHeld.{IsHeld};
 ghost use Rattle.capability_engine.specs.CompartmentGrown.{allowances_of, Grown, IsGrown, Creates, Answers, Reads, ReadsPage, ReadsList};
-ghost use Rattle.capability_engine.specs.CompartmentSteps.{on_regions, on_segments, OnRegions, AsksSegments, OnAllow};
+ghost use Rattle.capability_engine.specs.CompartmentSteps.{on_regions, on_segments, OnOne, OnRegions, AsksSegments, OnAllow};
 
-use crate::region::{Allowed, Changed as RegionChanged, POOL_LEN, RegionTracker};
+use crate::region::{POOL_LEN, RegionTracker};
 use crate::remapper::{Change, Remapper};
 use crate::stream;
 use definitions::{Answer, Call, GuestAddr, HostAddr, Refusal};
 use free_list::FreeList;
-use gen_arena::{Created as NewArena, GenArena};
+use gen_arena::GenArena;
 
 // One tracker and one remapper for each compartment, and the arena of the pool's slots.
 #[derive(Clone, Copy)]
@@ -26,32 +27,29 @@ pub struct Tables {
     pub remappers: [Remapper; 8],
 }
 
-// What new makes, and whether the slices have the lengths that it asks for.
-#[derive(Clone, Copy)]
-pub struct Created {
-    pub tables: Tables,
-    pub done: bool,
+// The place of a compartment among the eight.
+pub fn index_of(compartment: u64) -> Result<usize, Refusal>
+    ensures one { IfOk result (λ k. (compartment ≡ k) × (k < 8)) }
+    ensures none { IfErr result (λ refusal. (refusal ≡ NoCompartment) × (8 ≤ compartment)) }
+{
+    if 8 <= compartment {
+        return Err(Refusal::NoCompartment);
+    }
+    Ok(compartment as usize)
 }
 
-// What a call leaves of the tables, and its answer.
-#[derive(Clone, Copy)]
-pub struct Outcome {
-    pub tables: Tables,
-    pub answer: Answer,
-}
-
-// A call on the regions of one compartment: its tracker goes in and comes back. Any other call leaves it as it is.
+// A call on the regions of one compartment, whose tracker is lent. Any other call leaves it as it is.
 pub(crate) fn on_regions(
     call: Call,
-    tracker: RegionTracker,
-    arena: GenArena,
+    tracker: &mut RegionTracker,
+    arena: &mut GenArena,
     words: &mut [u64],
     next: &mut [usize],
     links: &mut [usize],
     gens: &mut [u64],
-) -> RegionChanged
-    requires { Allotted next.old words.old (heap links.old gens.old arena) tracker }
-    ensures { OnRegions call tracker arena words.old next.old links.old gens.old words.new next.new links.new gens.new result }
+) -> Answer
+    requires { Allotted next.old words.old (heap links.old gens.old arena.old) tracker.old }
+    ensures { OnRegions call tracker.old arena.old words.old next.old links.old gens.old words.new next.new links.new gens.new tracker.new arena.new result }
 {
     match call {
         Call::Add(_, start, end, rights) => {
@@ -62,182 +60,176 @@ pub(crate) fn on_regions(
         }
         Call::Refcount(_, start, end) => {
             let many = tracker.get_refcount(next, words, start, end);
-            RegionChanged {
-                tracker,
-                arena,
-                answer: Answer::Accepted(many),
-            }
+            Ok(many)
         }
-        _ => RegionChanged {
-            tracker,
-            arena,
-            answer: Answer::Accepted(0),
-        },
+        _ => Ok(0),
     }
 }
 
 // What a call that changes the segments of one compartment comes to by its first questions. Any other changes nothing.
-pub(crate) fn on_segments(call: Call, remapper: Remapper) -> Change
-    requires { IsHeld remapper }
-    ensures { AsksSegments call remapper result }
+pub(crate) fn on_segments(call: Call, remapper: &Remapper) -> Change
+    requires { IsHeld remapper.now }
+    ensures { AsksSegments call remapper.now result }
 {
     match call {
         Call::Map(_, hpa, gpa, size, repeat) => remapper.map_range(hpa, gpa, size, repeat),
         Call::Unmap(_, hpa, size) => remapper.unmap_range(hpa, size),
         Call::UnmapGpa(_, gpa, size) => remapper.unmap_gpa_range(gpa, size),
-        _ => Change::Keep(Answer::Accepted(0)),
+        _ => Change::Keep(Ok(0)),
     }
 }
 
 // The allowances of all eight, together.
-fn allowed(trackers: [RegionTracker; 8]) -> usize
-    requires { (length trackers ≡ 8) × (together (allowances_of trackers) ≤ 1024) }
-    ensures { result ≡ together (allowances_of trackers) }
+fn allowed(trackers: &[RegionTracker; 8]) -> usize
+    requires { (length trackers.now ≡ 8) × (together (allowances_of trackers.now) ≤ 1024) }
+    ensures { result ≡ together (allowances_of trackers.now) }
 {
     let mut n = 0;
-    let mut i = 0;
-    while i < 8 {
-        let tracker = trackers[i];
+    for tracker in trackers {
         n += tracker.allowance as usize;
-        i += 1;
     }
     n
 }
 
-// Compartment k's tracker with another allowance, by those of all eight.
-pub(crate) fn on_allow(trackers: [RegionTracker; 8], k: usize, allowance: u64) -> Allowed
-    requires { (k < 8) × (length trackers ≡ 8) × (together (allowances_of trackers) ≤ 1024) }
-    ensures { OnAllow trackers k allowance result }
+// Compartment k's tracker gets another allowance, by those of all eight.
+pub(crate) fn on_allow(trackers: &mut [RegionTracker; 8], k: usize, allowance: u64) -> Answer
+    requires { (k < 8) × (length trackers.old ≡ 8) × (together (allowances_of trackers.old) ≤ 1024) }
+    ensures { OnAllow trackers.old k allowance trackers.new result }
 {
     let all = allowed(trackers);
-    let tracker = trackers[k];
+    let mut tracker = trackers[k];
     let others = all - tracker.allowance as usize;
-    tracker.allow(others, allowance)
+    let answer = tracker.allow(others, allowance);
+    trackers[k] = tracker;
+    answer
 }
 
 impl Tables {
     // Eight empty compartments over a pool of free slots. Refused, with the slices as they were, where one has another length.
-    pub fn new(words: &[u64], next: &[usize], links: &mut [usize], gens: &mut [u64]) -> Created
+    pub fn new(
+        words: &[u64],
+        next: &[usize],
+        links: &mut [usize],
+        gens: &mut [u64],
+    ) -> Option<Tables>
         ensures { Creates words.now next.now links.old gens.old links.new gens.new result }
     {
+        if words.len() != POOL_LEN || next.len() != 1025 || links.len() != 1024 {
+            return None;
+        }
+        let arena = GenArena::new(links, gens)?;
         let tracker = RegionTracker::new();
         let remapper = Remapper::new();
-        let trackers = [tracker; 8];
-        let remappers = [remapper; 8];
-        let free_list = FreeList { head: 0, count: 0 };
-        let none = GenArena { free_list };
-        let made = Created {
-            tables: Tables {
-                arena: none,
-                trackers,
-                remappers,
-            },
-            done: false,
-        };
-        if words.len() != POOL_LEN {
-            return made;
-        }
-        if next.len() != 1025 {
-            return made;
-        }
-        if links.len() != 1024 {
-            return made;
-        }
-        match GenArena::new(links, gens) {
-            NewArena::Arena(arena) => Created {
-                tables: Tables {
-                    arena,
-                    trackers,
-                    remappers,
-                },
-                done: true,
-            },
-            NewArena::Uneven => made,
-        }
+        Some(Tables {
+            arena,
+            trackers: [tracker; 8],
+            remappers: [remapper; 8],
+        })
     }
 
-    // A call on the regions of the compartment that it names.
-    fn change_regions(
-        self,
+    // A call on the regions of compartment k, which it names.
+    pub(crate) fn regions_of(
+        &mut self,
+        k: usize,
         call: Call,
         words: &mut [u64],
         next: &mut [usize],
         links: &mut [usize],
         gens: &mut [u64],
-    ) -> Outcome
-        requires grown { IsGrown words.old next.old links.old gens.old self }
-        requires call_value { on_regions call ≡ true }
-        ensures { (calls : List Call) → Grown words.old next.old links.old gens.old self calls → Answers calls call words.old next.old links.old gens.old self words.new next.new links.new gens.new result }
+    ) -> Answer
+        requires grown { IsGrown words.old next.old links.old gens.old self.old }
+        requires named { OnOne k call (on_regions call) }
+        ensures { (calls : List Call) → Grown words.old next.old links.old gens.old self.old calls → Answers calls call words.old next.old links.old gens.old self.old words.new next.new links.new gens.new self.new result }
     {
-        let compartment = call.compartment();
-        if 8 <= compartment {
-            return Outcome {
-                tables: self,
-                answer: Answer::Refused(Refusal::NoCompartment),
-            };
-        }
-        let k = compartment as usize;
-        let mut trackers = self.trackers;
-        let tracker = trackers[k];
-        let r = on_regions(call, tracker, self.arena, words, next, links, gens);
-        let changed = r.tracker;
-        trackers[k] = changed;
-        let arena = r.arena;
-        let remappers = self.remappers;
-        let answer = r.answer;
-        Outcome {
-            tables: Tables {
-                arena,
-                trackers,
-                remappers,
-            },
-            answer,
-        }
+        let mut tracker = self.trackers[k];
+        let answer = on_regions(
+            call,
+            &mut tracker,
+            &mut self.arena,
+            words,
+            next,
+            links,
+            gens,
+        );
+        self.trackers[k] = tracker;
+        answer
     }
 
-    // A call that changes the segments of the compartment that it names.
-    fn change_segments(
-        self,
+    // A call that changes the segments of compartment k, which it names.
+    pub(crate) fn segments_of(
+        &mut self,
+        k: usize,
         call: Call,
         words: &[u64],
         next: &[usize],
         links: &[usize],
         gens: &[u64],
-    ) -> Outcome
-        requires grown { IsGrown words.now next.now links.now gens.now self }
-        requires call_value { on_segments call ≡ true }
-        ensures { (calls : List Call) → Grown words.now next.now links.now gens.now self calls → Answers calls call words.now next.now links.now gens.now self words.now next.now links.now gens.now result }
+    ) -> Answer
+        requires grown { IsGrown words.now next.now links.now gens.now self.old }
+        requires named { OnOne k call (on_segments call) }
+        ensures { (calls : List Call) → Grown words.now next.now links.now gens.now self.old calls → Answers calls call words.now next.now links.now gens.now self.old words.now next.now links.now gens.now self.new result }
     {
-        let compartment = call.compartment();
-        if 8 <= compartment {
-            return Outcome {
-                tables: self,
-                answer: Answer::Refused(Refusal::NoCompartment),
-            };
-        }
-        let k = compartment as usize;
-        let mut remappers = self.remappers;
-        let remapper = remappers[k];
-        let change = on_segments(call, remapper);
-        let r = remapper.apply(change);
-        let changed = r.remapper;
-        remappers[k] = changed;
-        let arena = self.arena;
-        let trackers = self.trackers;
-        let answer = r.answer;
-        Outcome {
-            tables: Tables {
-                arena,
-                trackers,
-                remappers,
-            },
-            answer,
-        }
+        let mut remapper = self.remappers[k];
+        let change = on_segments(call, &remapper);
+        let answer = remapper.apply(change);
+        self.remappers[k] = remapper;
+        answer
     }
 
-    // Adds a range to a compartment.
+    // Another allowance for compartment k.
+    pub(crate) fn allow_of(
+        &mut self,
+        k: usize,
+        allowance: u64,
+        words: &[u64],
+        next: &[usize],
+        links: &[usize],
+        gens: &[u64],
+    ) -> Answer
+        requires grown { IsGrown words.now next.now links.now gens.now self.old }
+        requires k_lt { k < 8 }
+        ensures { (calls : List Call) → Grown words.now next.now links.now gens.now self.old calls → Answers calls (Allow k allowance) words.now next.now links.now gens.now self.old words.now next.now links.now gens.now self.new result }
+    {
+        on_allow(&mut self.trackers, k, allowance)
+    }
+
+    // A call on the regions of the compartment that it names.
+    fn change_regions(
+        &mut self,
+        call: Call,
+        words: &mut [u64],
+        next: &mut [usize],
+        links: &mut [usize],
+        gens: &mut [u64],
+    ) -> Answer
+        requires grown { IsGrown words.old next.old links.old gens.old self.old }
+        requires call_value { on_regions call ≡ true }
+        ensures { (calls : List Call) → Grown words.old next.old links.old gens.old self.old calls → Answers calls call words.old next.old links.old gens.old self.old words.new next.new links.new gens.new self.new result }
+    {
+        let k = index_of(call.compartment())?;
+        self.regions_of(k, call, words, next, links, gens)
+    }
+
+    // A call that changes the segments of the compartment that it names.
+    fn change_segments(
+        &mut self,
+        call: Call,
+        words: &[u64],
+        next: &[usize],
+        links: &[usize],
+        gens: &[u64],
+    ) -> Answer
+        requires grown { IsGrown words.now next.now links.now gens.now self.old }
+        requires call_value { on_segments call ≡ true }
+        ensures { (calls : List Call) → Grown words.now next.now links.now gens.now self.old calls → Answers calls call words.now next.now links.now gens.now self.old words.now next.now links.now gens.now self.new result }
+    {
+        let k = index_of(call.compartment())?;
+        self.segments_of(k, call, words, next, links, gens)
+    }
+
+    // Adds a range to a compartment. Each call that changes the tables is a function of its own, as its promise names the call.
     pub fn add(
-        self,
+        &mut self,
         compartment: u64,
         start: HostAddr,
         end: HostAddr,
@@ -246,9 +238,9 @@ impl Tables {
         next: &mut [usize],
         links: &mut [usize],
         gens: &mut [u64],
-    ) -> Outcome
-        requires { IsGrown words.old next.old links.old gens.old self }
-        ensures { (calls : List Call) → Grown words.old next.old links.old gens.old self calls → Answers calls (Add compartment start end rights) words.old next.old links.old gens.old self words.new next.new links.new gens.new result }
+    ) -> Answer
+        requires { IsGrown words.old next.old links.old gens.old self.old }
+        ensures { (calls : List Call) → Grown words.old next.old links.old gens.old self.old calls → Answers calls (Add compartment start end rights) words.old next.old links.old gens.old self.old words.new next.new links.new gens.new self.new result }
     {
         let call = Call::Add(compartment, start, end, rights);
         self.change_regions(call, words, next, links, gens)
@@ -256,7 +248,7 @@ impl Tables {
 
     // Removes a range from a compartment.
     pub fn remove(
-        self,
+        &mut self,
         compartment: u64,
         start: HostAddr,
         end: HostAddr,
@@ -265,9 +257,9 @@ impl Tables {
         next: &mut [usize],
         links: &mut [usize],
         gens: &mut [u64],
-    ) -> Outcome
-        requires { IsGrown words.old next.old links.old gens.old self }
-        ensures { (calls : List Call) → Grown words.old next.old links.old gens.old self calls → Answers calls (Remove compartment start end rights) words.old next.old links.old gens.old self words.new next.new links.new gens.new result }
+    ) -> Answer
+        requires { IsGrown words.old next.old links.old gens.old self.old }
+        ensures { (calls : List Call) → Grown words.old next.old links.old gens.old self.old calls → Answers calls (Remove compartment start end rights) words.old next.old links.old gens.old self.old words.new next.new links.new gens.new self.new result }
     {
         let call = Call::Remove(compartment, start, end, rights);
         self.change_regions(call, words, next, links, gens)
@@ -275,7 +267,7 @@ impl Tables {
 
     // Maps host addresses of a compartment to guest addresses.
     pub fn map(
-        self,
+        &mut self,
         compartment: u64,
         hpa: HostAddr,
         gpa: GuestAddr,
@@ -285,9 +277,9 @@ impl Tables {
         next: &[usize],
         links: &[usize],
         gens: &[u64],
-    ) -> Outcome
-        requires { IsGrown words.now next.now links.now gens.now self }
-        ensures { (calls : List Call) → Grown words.now next.now links.now gens.now self calls → Answers calls (Map compartment hpa gpa size repeat) words.now next.now links.now gens.now self words.now next.now links.now gens.now result }
+    ) -> Answer
+        requires { IsGrown words.now next.now links.now gens.now self.old }
+        ensures { (calls : List Call) → Grown words.now next.now links.now gens.now self.old calls → Answers calls (Map compartment hpa gpa size repeat) words.now next.now links.now gens.now self.old words.now next.now links.now gens.now self.new result }
     {
         let call = Call::Map(compartment, hpa, gpa, size, repeat);
         self.change_segments(call, words, next, links, gens)
@@ -295,7 +287,7 @@ impl Tables {
 
     // Unmaps a range of host addresses of a compartment.
     pub fn unmap_range(
-        self,
+        &mut self,
         compartment: u64,
         hpa: HostAddr,
         size: u64,
@@ -303,9 +295,9 @@ impl Tables {
         next: &[usize],
         links: &[usize],
         gens: &[u64],
-    ) -> Outcome
-        requires { IsGrown words.now next.now links.now gens.now self }
-        ensures { (calls : List Call) → Grown words.now next.now links.now gens.now self calls → Answers calls (Unmap compartment hpa size) words.now next.now links.now gens.now self words.now next.now links.now gens.now result }
+    ) -> Answer
+        requires { IsGrown words.now next.now links.now gens.now self.old }
+        ensures { (calls : List Call) → Grown words.now next.now links.now gens.now self.old calls → Answers calls (Unmap compartment hpa size) words.now next.now links.now gens.now self.old words.now next.now links.now gens.now self.new result }
     {
         let call = Call::Unmap(compartment, hpa, size);
         self.change_segments(call, words, next, links, gens)
@@ -313,7 +305,7 @@ impl Tables {
 
     // Unmaps a range of guest addresses of a compartment.
     pub fn unmap_gpa_range(
-        self,
+        &mut self,
         compartment: u64,
         gpa: GuestAddr,
         size: u64,
@@ -321,9 +313,9 @@ impl Tables {
         next: &[usize],
         links: &[usize],
         gens: &[u64],
-    ) -> Outcome
-        requires { IsGrown words.now next.now links.now gens.now self }
-        ensures { (calls : List Call) → Grown words.now next.now links.now gens.now self calls → Answers calls (UnmapGpa compartment gpa size) words.now next.now links.now gens.now self words.now next.now links.now gens.now result }
+    ) -> Answer
+        requires { IsGrown words.now next.now links.now gens.now self.old }
+        ensures { (calls : List Call) → Grown words.now next.now links.now gens.now self.old calls → Answers calls (UnmapGpa compartment gpa size) words.now next.now links.now gens.now self.old words.now next.now links.now gens.now self.new result }
     {
         let call = Call::UnmapGpa(compartment, gpa, size);
         self.change_segments(call, words, next, links, gens)
@@ -331,44 +323,24 @@ impl Tables {
 
     // Sets a compartment's allowance of records.
     pub fn allow(
-        self,
+        &mut self,
         compartment: u64,
         allowance: u64,
         words: &[u64],
         next: &[usize],
         links: &[usize],
         gens: &[u64],
-    ) -> Outcome
-        requires { IsGrown words.now next.now links.now gens.now self }
-        ensures { (calls : List Call) → Grown words.now next.now links.now gens.now self calls → Answers calls (Allow compartment allowance) words.now next.now links.now gens.now self words.now next.now links.now gens.now result }
+    ) -> Answer
+        requires { IsGrown words.now next.now links.now gens.now self.old }
+        ensures { (calls : List Call) → Grown words.now next.now links.now gens.now self.old calls → Answers calls (Allow compartment allowance) words.now next.now links.now gens.now self.old words.now next.now links.now gens.now self.new result }
     {
-        if 8 <= compartment {
-            return Outcome {
-                tables: self,
-                answer: Answer::Refused(Refusal::NoCompartment),
-            };
-        }
-        let k = compartment as usize;
-        let mut trackers = self.trackers;
-        let r = on_allow(trackers, k, allowance);
-        let changed = r.tracker;
-        trackers[k] = changed;
-        let arena = self.arena;
-        let remappers = self.remappers;
-        let answer = r.answer;
-        Outcome {
-            tables: Tables {
-                arena,
-                trackers,
-                remappers,
-            },
-            answer,
-        }
+        let k = index_of(compartment)?;
+        self.allow_of(k, allowance, words, next, links, gens)
     }
 
     // The most holders in a range of a compartment.
     pub fn get_refcount(
-        self,
+        &self,
         compartment: u64,
         start: HostAddr,
         end: HostAddr,
@@ -377,21 +349,17 @@ impl Tables {
         links: &[usize],
         gens: &[u64],
     ) -> Answer
-        requires { IsGrown words.now next.now links.now gens.now self }
-        ensures { (calls : List Call) → Grown words.now next.now links.now gens.now self calls → Reads calls (Refcount compartment start end) words.now next.now links.now gens.now self result }
+        requires { IsGrown words.now next.now links.now gens.now self.now }
+        ensures { (calls : List Call) → Grown words.now next.now links.now gens.now self.now calls → Reads calls (Refcount compartment start end) words.now next.now links.now gens.now self.now result }
     {
-        if 8 <= compartment {
-            return Answer::Refused(Refusal::NoCompartment);
-        }
-        let k = compartment as usize;
-        let trackers = self.trackers;
-        let tracker = trackers[k];
-        Answer::Accepted(tracker.get_refcount(next, words, start, end))
+        let k = index_of(compartment)?;
+        let tracker = self.trackers[k];
+        Ok(tracker.get_refcount(next, words, start, end))
     }
 
     // Does a range of guest addresses share one with the span of a stored segment of a compartment?
     pub fn overlaps(
-        self,
+        &self,
         compartment: u64,
         start: GuestAddr,
         size: u64,
@@ -400,21 +368,17 @@ impl Tables {
         links: &[usize],
         gens: &[u64],
     ) -> Answer
-        requires { IsGrown words.now next.now links.now gens.now self }
-        ensures { (calls : List Call) → Grown words.now next.now links.now gens.now self calls → Reads calls (Overlaps compartment start size) words.now next.now links.now gens.now self result }
+        requires { IsGrown words.now next.now links.now gens.now self.now }
+        ensures { (calls : List Call) → Grown words.now next.now links.now gens.now self.now calls → Reads calls (Overlaps compartment start size) words.now next.now links.now gens.now self.now result }
     {
-        if 8 <= compartment {
-            return Answer::Refused(Refusal::NoCompartment);
-        }
-        let k = compartment as usize;
-        let remappers = self.remappers;
-        let remapper = remappers[k];
+        let k = index_of(compartment)?;
+        let remapper = self.remappers[k];
         remapper.overlaps(start, size)
     }
 
     // A page of a compartment's permissions: from the from-th on, as many whole groups of start, end and rights as out takes.
     pub fn permissions(
-        self,
+        &self,
         compartment: u64,
         from: usize,
         out: &mut [u64],
@@ -423,22 +387,18 @@ impl Tables {
         links: &[usize],
         gens: &[u64],
     ) -> Answer
-        requires { IsGrown words.now next.now links.now gens.now self }
-        ensures { (calls : List Call) → Grown words.now next.now links.now gens.now self calls → ReadsPage 3 permission_groups from calls (Permissions compartment from (length out.old)) words.now next.now links.now gens.now self out.old out.new result }
+        requires { IsGrown words.now next.now links.now gens.now self.now }
+        ensures { (calls : List Call) → Grown words.now next.now links.now gens.now self.now calls → ReadsPage 3 permission_groups from calls (Permissions compartment from (length out.old)) words.now next.now links.now gens.now self.now out.old out.new result }
     {
-        if 8 <= compartment {
-            return Answer::Refused(Refusal::NoCompartment);
-        }
-        let k = compartment as usize;
-        let trackers = self.trackers;
-        let tracker = trackers[k];
+        let k = index_of(compartment)?;
+        let tracker = self.trackers[k];
         let many = stream::permissions(next, words, tracker, from, out);
-        Answer::Accepted(many as u64)
+        Ok(many as u64)
     }
 
     // A page of a compartment's stream: from the from-th mapping on, as many whole groups of five numbers as out takes.
     pub fn stream(
-        self,
+        &self,
         compartment: u64,
         from: usize,
         out: &mut [u64],
@@ -447,26 +407,21 @@ impl Tables {
         links: &[usize],
         gens: &[u64],
     ) -> Answer
-        requires { IsGrown words.now next.now links.now gens.now self }
-        ensures { (calls : List Call) → Grown words.now next.now links.now gens.now self calls → ReadsPage 5 stream_groups from calls (Remap compartment from (length out.old)) words.now next.now links.now gens.now self out.old out.new result }
+        requires { IsGrown words.now next.now links.now gens.now self.now }
+        ensures { (calls : List Call) → Grown words.now next.now links.now gens.now self.now calls → ReadsPage 5 stream_groups from calls (Remap compartment from (length out.old)) words.now next.now links.now gens.now self.now out.old out.new result }
     {
-        if 8 <= compartment {
-            return Answer::Refused(Refusal::NoCompartment);
-        }
-        let k = compartment as usize;
-        let trackers = self.trackers;
-        let tracker = trackers[k];
-        let remappers = self.remappers;
-        let remapper = remappers[k];
+        let k = index_of(compartment)?;
+        let tracker = self.trackers[k];
+        let remapper = self.remappers[k];
         let mut segments = [0u64; 256];
         let n = remapper.copy_segments(&mut segments);
         let many = stream::page(next, words, &segments, n, tracker.head, from, out);
-        Answer::Accepted(many as u64)
+        Ok(many as u64)
     }
 
     // A page of a compartment's stored regions: groups of RECORD_LEN numbers.
     pub fn regions(
-        self,
+        &self,
         compartment: u64,
         from: usize,
         out: &mut [u64],
@@ -475,22 +430,18 @@ impl Tables {
         links: &[usize],
         gens: &[u64],
     ) -> Answer
-        requires { IsGrown words.now next.now links.now gens.now self }
-        ensures { (calls : List Call) → Grown words.now next.now links.now gens.now self calls → ReadsList record_len region_groups calls compartment from out.old out.new result }
+        requires { IsGrown words.now next.now links.now gens.now self.now }
+        ensures { (calls : List Call) → Grown words.now next.now links.now gens.now self.now calls → ReadsList record_len region_groups calls compartment from out.old out.new result }
     {
-        if 8 <= compartment {
-            return Answer::Refused(Refusal::NoCompartment);
-        }
-        let k = compartment as usize;
-        let trackers = self.trackers;
-        let tracker = trackers[k];
+        let k = index_of(compartment)?;
+        let tracker = self.trackers[k];
         let many = stream::regions(next, words, tracker.head, from, out);
-        Answer::Accepted(many as u64)
+        Ok(many as u64)
     }
 
     // A page of a compartment's stored segments: groups of four numbers.
     pub fn segments(
-        self,
+        &self,
         compartment: u64,
         from: usize,
         out: &mut [u64],
@@ -499,18 +450,14 @@ impl Tables {
         links: &[usize],
         gens: &[u64],
     ) -> Answer
-        requires { IsGrown words.now next.now links.now gens.now self }
-        ensures { (calls : List Call) → Grown words.now next.now links.now gens.now self calls → ReadsList 4 segment_groups calls compartment from out.old out.new result }
+        requires { IsGrown words.now next.now links.now gens.now self.now }
+        ensures { (calls : List Call) → Grown words.now next.now links.now gens.now self.now calls → ReadsList 4 segment_groups calls compartment from out.old out.new result }
     {
-        if 8 <= compartment {
-            return Answer::Refused(Refusal::NoCompartment);
-        }
-        let k = compartment as usize;
-        let remappers = self.remappers;
-        let remapper = remappers[k];
+        let k = index_of(compartment)?;
+        let remapper = self.remappers[k];
         let mut segments = [0u64; 256];
         let n = remapper.copy_segments(&mut segments);
         let many = stream::segments(&segments, n, from, out);
-        Answer::Accepted(many as u64)
+        Ok(many as u64)
     }
 }

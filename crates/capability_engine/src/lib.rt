@@ -2,12 +2,13 @@
 #![tactic(auto)]
 
 mod compartments;
+mod lists;
 mod region;
 mod remapper;
 mod script;
 mod stream;
 
-pub use compartments::{Created, Outcome, Tables};
+pub use compartments::{Tables, index_of};
 pub use region::{POOL_LEN, RegionTracker};
 pub use remapper::Remapper;
-pub use script::{Fed, Progress, Script};
+pub use script::{Progress, Script};

@@ -1,9 +1,11 @@
 // Lists of regions over one pool, which the caller lends as four slices: words, record i from RECORD_LEN * i on; next, the
 // slot after each slot, 1,024 for none, whose word 1,024 is the head of the list being worked on; links and gens, the arena's.
-ghost use Rattle.std.specs.Prelude.{◌≡◌, ◌+◌, ◌*◌, ◌-◌, ◌^◌, ◌<◌, ◌≤◌, length, get_or, false, true, not, ◌&&◌, ◌||◌, if◌then◌else◌};
-ghost use Rattle.definitions.specs.Tests.{◌<?◌, ◌=?◌, ◌≤?◌, bit};
+// They and the arena go as parameters of their own: in a struct of references each function would have to promise besides
+// that its references stay the same. start and end do too, as the calls and the questions name them.
+ghost use Rattle.std.specs.Prelude.{◌≡◌, ◌+◌, ◌*◌, ◌-◌, ◌^◌, ◌<◌, ◌≤◌, ℕ, Bool, length, get_or, false, true, not, ◌||◌, if◌then◌else◌};
+ghost use Rattle.definitions.specs.Tests.{◌<?◌, ◌=?◌};
+ghost use Rattle.definitions.specs.Answers.{Answer};
 ghost use Rattle.definitions.specs.Questions.{every_named, ranged};
-ghost use Rattle.definitions.specs.declared.answer.Answer.TheVariants.{Accepted, Refused};
 ghost use Rattle.definitions.proofs.Tables.{add_on, remove_on};
 ghost use Rattle.definitions.specs.Pages.{record_len};
 ghost use Rattle.capability_engine.specs.PoolWords.{pool_len, region_at, put_region};
@@ -13,23 +15,16 @@ ghost use Rattle.definitions.proofs.Lists.{fill, change, added, removed, peak};
 ghost use Rattle.capability_engine.specs.PoolChain.{Listed, Walkable, last, slots, records, stored_at, SkipsBelow, SkipsThrough};
 ghost use Rattle.capability_engine.specs.PoolOwn.{Heap, heap, records_of, Ready, Room, Pass, CanInsert, Inserts, InsertsRegion, PutsGap, CanRemove, Removes, Narrows, widened, CanWiden};
 ghost use Rattle.capability_engine.specs.RegionPasses.{lowered, start_of, changed_one, Small, AllSmall, CanApplyRemove, CanAddBetween, CanRemoveBetween};
-ghost use Rattle.capability_engine.specs.RegionAsks.{every_of, low_enough, gap_from, gap_here, add_step, frees_one, remove_step, AddsRegion, RemovesRegion, fold_from, add_begin, remove_begin, AskableAt, Countable, most_of, AllowsOne, Allotted};
+ghost use Rattle.capability_engine.specs.RegionAsks.{every_of, answer_after, judged_add, judged_remove, low_enough, gap_from, gap_here, add_step, frees_one, remove_step, AddsRegion, RemovesRegion, fold_from, add_begin, remove_begin, AskableAt, Countable, most_of, AllowsOne, Allotted};
 ghost use Rattle.capability_engine.specs.RegionListing.{Starts, Steps};
 
 use definitions::{
     Answer, Counters, HostAddr, MemOps, MemoryPermission, RECORD_LEN, Refusal, Region, Values,
 };
-use gen_arena::{GenArena, Handle, NewHandle};
+use gen_arena::{GenArena, Handle};
 
 // The words of the pool's 1,024 records.
 pub const POOL_LEN: usize = 1024 * RECORD_LEN;
-
-// The slot that was put in, and the arena without it.
-#[derive(Clone, Copy)]
-pub(crate) struct Inserted {
-    pub arena: GenArena,
-    pub slot: usize,
-}
 
 pub(crate) fn load(words: &[u64], i: usize) -> Region
     requires { (i < 1024) × (length words.now ≡ pool_len) }
@@ -74,31 +69,20 @@ pub(crate) fn insert_after(
     next: &mut [usize],
     links: &mut [usize],
     gens: &[u64],
-    arena: GenArena,
+    arena: &mut GenArena,
     p: usize,
-) -> Inserted
-    requires { CanInsert next.old (heap links.old gens.now arena) p }
-    ensures { Inserts next.old (heap links.old gens.now arena) p result.slot next.new (heap links.new gens.now result.arena) }
+) -> usize
+    requires { CanInsert next.old (heap links.old gens.now arena.old) p }
+    ensures { Inserts next.old (heap links.old gens.now arena.old) p result next.new (heap links.new gens.now arena.new) }
 {
-    let taken = arena.allocate(links, gens);
-    let left = taken.arena;
-    let handle = taken.handle;
-    match handle {
-        NewHandle::Made(made) => {
-            let x = made.idx;
-            let n = next[p];
-            next[x] = n;
-            next[p] = x;
-            Inserted {
-                arena: left,
-                slot: x,
-            }
-        }
-        NewHandle::Full => Inserted {
-            arena: left,
-            slot: 1024,
-        },
-    }
+    let made = arena.allocate(links, gens);
+    let Some(handle) = made else {
+        return 1024;
+    };
+    let x = handle.idx;
+    next[x] = next[p];
+    next[p] = x;
+    x
 }
 
 // What follows p goes, and its slot is free at the next generation.
@@ -106,18 +90,16 @@ pub(crate) fn remove_after(
     next: &mut [usize],
     links: &mut [usize],
     gens: &mut [u64],
-    arena: GenArena,
+    arena: &mut GenArena,
     p: usize,
-) -> GenArena
-    requires { CanRemove next.old (heap links.old gens.old arena) p }
-    ensures { Removes next.old (heap links.old gens.old arena) p next.new (heap links.new gens.new result) }
+)
+    requires { CanRemove next.old (heap links.old gens.old arena.old) p }
+    ensures { Removes next.old (heap links.old gens.old arena.old) p next.new (heap links.new gens.new arena.new) }
 {
     let x = next[p];
-    let n = next[x];
-    next[p] = n;
+    next[p] = next[x];
     let generation = gens[x];
-    let freed = arena.free(links, gens, Handle { idx: x, generation });
-    freed.arena
+    arena.free(links, gens, Handle { idx: x, generation });
 }
 
 // A free slot, with a region in it, is linked in after p.
@@ -126,18 +108,17 @@ pub(crate) fn insert_region(
     words: &mut [u64],
     links: &mut [usize],
     gens: &[u64],
-    arena: GenArena,
+    arena: &mut GenArena,
     p: usize,
     r: Region,
-) -> Inserted
-    requires can_insert { CanInsert next.old (heap links.old gens.now arena) p }
+) -> usize
+    requires can_insert { CanInsert next.old (heap links.old gens.now arena.old) p }
     requires words_len { length words.old ≡ pool_len }
-    ensures { InsertsRegion next.old words.old (heap links.old gens.now arena) p result.slot r next.new words.new (heap links.new gens.now result.arena) }
+    ensures { InsertsRegion next.old words.old (heap links.old gens.now arena.old) p result r next.new words.new (heap links.new gens.now arena.new) }
 {
-    let made = insert_after(next, links, gens, arena, p);
-    let x = made.slot;
+    let x = insert_after(next, links, gens, arena, p);
     save(words, x, r);
-    made
+    x
 }
 
 // The region in a slot is cut at an address. The second half is put directly after it, in the slot that is answered.
@@ -146,27 +127,16 @@ pub(crate) fn split_region_at(
     words: &mut [u64],
     links: &mut [usize],
     gens: &[u64],
-    arena: GenArena,
+    arena: &mut GenArena,
     slot: usize,
     at: HostAddr,
-) -> Inserted
-    requires slot_bound { (slot < 1024) × CanInsert next.old (heap links.old gens.now arena) slot }
+) -> usize
+    requires slot_bound { (slot < 1024) × CanInsert next.old (heap links.old gens.now arena.old) slot }
     requires words_len { length words.old ≡ pool_len }
-    ensures { InsertsRegion next.old (put_region words.old slot (region (region_at words.old slot).start at (region_at words.old slot).values)) (heap links.old gens.now arena) slot result.slot (region at (region_at words.old slot).end (region_at words.old slot).values) next.new words.new (heap links.new gens.now result.arena) }
+    ensures { InsertsRegion next.old (put_region words.old slot (region (region_at words.old slot).start at (region_at words.old slot).values)) (heap links.old gens.now arena.old) slot result (region at (region_at words.old slot).end (region_at words.old slot).values) next.new words.new (heap links.new gens.now arena.new) }
 {
     let r = load(words, slot);
-    let start = r.start;
-    let end = r.end;
-    let values = r.values;
-    save(
-        words,
-        slot,
-        Region {
-            start,
-            end: at,
-            values,
-        },
-    );
+    save(words, slot, Region { end: at, ..r });
     insert_region(
         next,
         words,
@@ -174,22 +144,15 @@ pub(crate) fn split_region_at(
         gens,
         arena,
         slot,
-        Region {
-            start: at,
-            end,
-            values,
-        },
+        Region { start: at, ..r },
     )
 }
 
+#[tactic(auto, using(std::proofs::lemmas::Bool::Decides::nat_tests), unfolding(definitions::specs::Regions::splits))]
 fn has_inside(r: Region, at: HostAddr) -> bool
     ensures { result ≡ splits at r }
 {
-    if r.start.0 < at.0 {
-        at.0 < r.end.0
-    } else {
-        false
-    }
+    r.start < at && at < r.end
 }
 
 // The list is cut at an address: a region that has it strictly inside becomes two.
@@ -198,48 +161,35 @@ pub(crate) fn cut_at(
     words: &mut [u64],
     links: &mut [usize],
     gens: &[u64],
-    arena: GenArena,
+    arena: &mut GenArena,
     at: HostAddr,
-) -> GenArena
-    requires ready { Ready next.old words.old (heap links.old gens.now arena) }
-    requires room { Room next.old (heap links.old gens.now arena) (cut at (records_of next.old words.old)) }
-    ensures { Pass next.old words.old (heap links.old gens.now arena) next.new words.new (heap links.new gens.now result)
+)
+    requires ready { Ready next.old words.old (heap links.old gens.now arena.old) }
+    requires room { Room next.old (heap links.old gens.now arena.old) (cut at (records_of next.old words.old)) }
+    ensures { Pass next.old words.old (heap links.old gens.now arena.old) next.new words.new (heap links.new gens.now arena.new)
         (cut at (records_of next.old words.old)) }
 {
     let mut q = 1024;
     loop {
         let x = next[q];
         if x >= 1024 {
-            return arena;
+            return;
         }
         let r = load(words, x);
         if has_inside(r, at) {
-            let made = split_region_at(next, words, links, gens, arena, x, at);
-            return made.arena;
+            split_region_at(next, words, links, gens, arena, x, at);
+            return;
         }
         q = x;
     }
 }
 
 // Does the second go on where the first ends, with the same counts?
+#[tactic(auto, using(std::proofs::lemmas::Bool::Decides::nat_tests), unfolding(definitions::specs::Regions::joins))]
 fn goes_on(r: Region, q: Region) -> bool
     ensures { result ≡ joins r q }
 {
-    if r.end.0 == q.start.0 {
-        r.same_counts(q)
-    } else {
-        false
-    }
-}
-
-// The first up to the second's end. Both have the same values: with those of the first only its end is written anew.
-fn both(r: Region, q: Region) -> Region
-    ensures { result ≡ region r.start q.end r.values }
-{
-    let start = r.start;
-    let end = q.end;
-    let values = r.values;
-    Region { start, end, values }
+    r.end == q.start && r.same_counts(q)
 }
 
 // Neighbours that touch and have equal counts become one region.
@@ -248,42 +198,39 @@ pub(crate) fn coalesce(
     words: &mut [u64],
     links: &mut [usize],
     gens: &mut [u64],
-    arena: GenArena,
-) -> GenArena
-    requires { Ready next.old words.old (heap links.old gens.old arena) }
-    ensures { Pass next.old words.old (heap links.old gens.old arena) next.new words.new (heap links.new gens.new result)
+    arena: &mut GenArena,
+)
+    requires { Ready next.old words.old (heap links.old gens.old arena.old) }
+    ensures { Pass next.old words.old (heap links.old gens.old arena.old) next.new words.new (heap links.new gens.new arena.new)
         (joined (records_of next.old words.old)) }
 {
     let mut q = 1024;
-    let mut left = arena;
     loop {
         let x = next[q];
         if x >= 1024 {
-            return left;
+            return;
         }
         let y = next[x];
         if y >= 1024 {
-            return left;
+            return;
         }
         let a = load(words, x);
         let b = load(words, y);
         if goes_on(a, b) {
-            save(words, x, both(a, b));
-            left = remove_after(next, links, gens, left, x);
+            // Both have the same values: only the end is written anew.
+            save(words, x, Region { end: b.end, ..a });
+            remove_after(next, links, gens, arena, x);
         } else {
             q = x;
         }
     }
 }
 
+#[tactic(auto, using(std::proofs::lemmas::Bool::Decides::nat_tests), unfolding(definitions::specs::Regions::within))]
 fn lies_in(r: Region, start: HostAddr, end: HostAddr) -> bool
     ensures { result ≡ within start end r }
 {
-    if start.0 <= r.start.0 {
-        r.end.0 <= end.0
-    } else {
-        false
-    }
+    start <= r.start && r.end <= end
 }
 
 // What a pass makes of the region in a slot is written where that lies in the range: elsewhere it is there already.
@@ -297,6 +244,7 @@ fn save_in(words: &mut [u64], i: usize, r: Region, start: HostAddr, end: HostAdd
     }
 }
 
+// This and decrease_in call two functions of counts, of which only the first is asked with small counts.
 fn increase_in(r: Region, start: HostAddr, end: HostAddr, rights: u64) -> Region
     requires { Small (changed_one (raise rights) start end r).values }
     ensures { result ≡ changed_one (raise rights) start end r }
@@ -340,29 +288,18 @@ fn put_gap(
     words: &mut [u64],
     links: &mut [usize],
     gens: &[u64],
-    arena: GenArena,
+    arena: &mut GenArena,
     q: usize,
     start: HostAddr,
     end: HostAddr,
-) -> GenArena
-    requires can_insert { start.0 < end.0 → CanInsert next.old (heap links.old gens.now arena) q }
+)
+    requires can_insert { start.0 < end.0 → CanInsert next.old (heap links.old gens.now arena.old) q }
     requires words_len { length words.old ≡ pool_len }
-    ensures { PutsGap next.old words.old (heap links.old gens.now arena) q start end next.new words.new (heap links.new gens.now result) }
+    ensures { PutsGap next.old words.old (heap links.old gens.now arena.old) q start end next.new words.new (heap links.new gens.now arena.new) }
 {
     if start.0 < end.0 {
-        let counters = Counters {
-            read: 0,
-            write: 0,
-            exec: 0,
-            supervisor: 0,
-            uncacheable: 0,
-            device: 0,
-        };
-        let values = Values {
-            refcount: 0,
-            counters,
-        };
-        let made = insert_region(
+        let values = Values::default();
+        insert_region(
             next,
             words,
             links,
@@ -371,9 +308,7 @@ fn put_gap(
             q,
             Region { start, end, values },
         );
-        return made.arena;
     }
-    arena
 }
 
 // The gaps of a range become regions that nobody holds.
@@ -382,22 +317,21 @@ pub(crate) fn fill_gaps(
     words: &mut [u64],
     links: &mut [usize],
     gens: &[u64],
-    arena: GenArena,
+    arena: &mut GenArena,
     start: HostAddr,
     end: HostAddr,
-) -> GenArena
-    requires ready { Ready next.old words.old (heap links.old gens.now arena) }
-    requires room { Room next.old (heap links.old gens.now arena) (fill start end (records_of next.old words.old)) }
-    ensures { Pass next.old words.old (heap links.old gens.now arena) next.new words.new (heap links.new gens.now result)
+)
+    requires ready { Ready next.old words.old (heap links.old gens.now arena.old) }
+    requires room { Room next.old (heap links.old gens.now arena.old) (fill start end (records_of next.old words.old)) }
+    ensures { Pass next.old words.old (heap links.old gens.now arena.old) next.new words.new (heap links.new gens.now arena.new)
         (fill start end (records_of next.old words.old)) }
 {
     let mut q = 1024;
     let mut s = start;
-    let mut left = arena;
     loop {
         let x = next[q];
         if x >= 1024 {
-            return put_gap(next, words, links, gens, left, q, s, end);
+            return put_gap(next, words, links, gens, arena, q, s, end);
         }
         let r = load(words, x);
         let from = r.start;
@@ -405,9 +339,9 @@ pub(crate) fn fill_gaps(
         if to.0 <= s.0 {
             q = x;
         } else if end.0 <= from.0 {
-            return put_gap(next, words, links, gens, left, q, s, end);
+            return put_gap(next, words, links, gens, arena, q, s, end);
         } else {
-            left = put_gap(next, words, links, gens, left, q, s, from);
+            put_gap(next, words, links, gens, arena, q, s, from);
             q = x;
             s = to;
         }
@@ -430,26 +364,25 @@ pub(crate) fn lower_all(
     words: &mut [u64],
     links: &mut [usize],
     gens: &mut [u64],
-    arena: GenArena,
+    arena: &mut GenArena,
     start: HostAddr,
     end: HostAddr,
     rights: u64,
-) -> GenArena
-    requires { Ready next.old words.old (heap links.old gens.old arena) }
-    ensures { Pass next.old words.old (heap links.old gens.old arena) next.new words.new (heap links.new gens.new result)
+)
+    requires { Ready next.old words.old (heap links.old gens.old arena.old) }
+    ensures { Pass next.old words.old (heap links.old gens.old arena.old) next.new words.new (heap links.new gens.new arena.new)
         (lowered rights start end (records_of next.old words.old)) }
 {
     let mut q = 1024;
-    let mut left = arena;
     loop {
         let x = next[q];
         if x >= 1024 {
-            return left;
+            return;
         }
         let r = load(words, x);
         let l = decrease_in(r, start, end, rights);
         if l.values.refcount == 0 {
-            left = remove_after(next, links, gens, left, q);
+            remove_after(next, links, gens, arena, q);
         } else {
             save_in(words, x, r, start, end, l);
             q = x;
@@ -479,22 +412,22 @@ pub(crate) fn apply_add(
     words: &mut [u64],
     links: &mut [usize],
     gens: &mut [u64],
-    arena: GenArena,
+    arena: &mut GenArena,
     start: HostAddr,
     end: HostAddr,
     rights: u64,
-) -> GenArena
-    requires ready { Ready next.old words.old (heap links.old gens.old arena) }
-    requires room { Room next.old (heap links.old gens.old arena) (peak start end (records_of next.old words.old)) }
+)
+    requires ready { Ready next.old words.old (heap links.old gens.old arena.old) }
+    requires room { Room next.old (heap links.old gens.old arena.old) (peak start end (records_of next.old words.old)) }
     requires all_small { AllSmall (change (raise rights) start end (peak start end (records_of next.old words.old))) }
-    ensures { Pass next.old words.old (heap links.old gens.old arena) next.new words.new (heap links.new gens.new result)
+    ensures { Pass next.old words.old (heap links.old gens.old arena.old) next.new words.new (heap links.new gens.new arena.new)
         (added start end rights (records_of next.old words.old)) }
 {
-    let first = cut_at(next, words, links, gens, arena, start);
-    let second = cut_at(next, words, links, gens, first, end);
-    let filled = fill_gaps(next, words, links, gens, second, start, end);
+    cut_at(next, words, links, gens, arena, start);
+    cut_at(next, words, links, gens, arena, end);
+    fill_gaps(next, words, links, gens, arena, start, end);
     raise_all(next, words, start, end, rights);
-    coalesce(next, words, links, gens, filled)
+    coalesce(next, words, links, gens, arena);
 }
 
 // A remove that was found to be possible: nothing here can fail.
@@ -503,32 +436,23 @@ pub(crate) fn apply_remove(
     words: &mut [u64],
     links: &mut [usize],
     gens: &mut [u64],
-    arena: GenArena,
+    arena: &mut GenArena,
     start: HostAddr,
     end: HostAddr,
     rights: u64,
-) -> GenArena
-    requires ready { Ready next.old words.old (heap links.old gens.old arena) }
-    requires can_apply_remove { CanApplyRemove next.old words.old (heap links.old gens.old arena) start end rights }
-    ensures { Pass next.old words.old (heap links.old gens.old arena) next.new words.new (heap links.new gens.new result)
+)
+    requires ready { Ready next.old words.old (heap links.old gens.old arena.old) }
+    requires can_apply_remove { CanApplyRemove next.old words.old (heap links.old gens.old arena.old) start end rights }
+    ensures { Pass next.old words.old (heap links.old gens.old arena.old) next.new words.new (heap links.new gens.new arena.new)
         (removed start end rights (records_of next.old words.old)) }
 {
-    let first = cut_at(next, words, links, gens, arena, start);
-    let low = lower_all(next, words, links, gens, first, start, end, rights);
+    cut_at(next, words, links, gens, arena, start);
+    lower_all(next, words, links, gens, arena, start, end, rights);
     let head = next[1024];
     let from = start_at(next, words, head, end);
-    let second = cut_at(next, words, links, gens, low, end);
-    let last = lower_all(next, words, links, gens, second, from, end, rights);
-    coalesce(next, words, links, gens, last)
-}
-
-fn lesser(a: HostAddr, b: HostAddr) -> HostAddr
-    ensures { (result.0 ≤ a.0) × (result.0 ≤ b.0) }
-{
-    if a.0 < b.0 {
-        return a;
-    }
-    b
+    cut_at(next, words, links, gens, arena, end);
+    lower_all(next, words, links, gens, arena, from, end, rights);
+    coalesce(next, words, links, gens, arena);
 }
 
 // How far a walk went: the last slot that it passed, 1,024 if none, and the one that it stands at.
@@ -603,8 +527,7 @@ fn narrow(next: &mut [usize], p: usize, z: usize) -> Outside
     let rest = next[z];
     next[z] = 1024;
     let head = next[1024];
-    let first = next[p];
-    next[1024] = first;
+    next[1024] = next[p];
     Outside { head, rest }
 }
 
@@ -614,36 +537,34 @@ fn widen(next: &mut [usize], p: usize, off: Outside)
     ensures { next.new ≡ widened next.old p off.head off.rest }
 {
     let first = next[1024];
-    let head = off.head;
-    let rest = off.rest;
-    next[1024] = head;
+    next[1024] = off.head;
     next[p] = first;
     let y = last_from(next, p);
-    next[y] = rest;
+    next[y] = off.rest;
 }
 
 // The same add, of the records behind p up to the end of the range alone: those before p end below it.
+// Beside the remove below: a trait with the questions, the pass and the laws of both would be longer than the two.
 fn add_between(
     next: &mut [usize],
     words: &mut [u64],
     links: &mut [usize],
     gens: &mut [u64],
-    arena: GenArena,
+    arena: &mut GenArena,
     p: usize,
     start: HostAddr,
     end: HostAddr,
     rights: u64,
-) -> GenArena
-    requires { CanAddBetween next.old words.old (heap links.old gens.old arena) start end rights p }
-    ensures { Pass next.old words.old (heap links.old gens.old arena) next.new words.new (heap links.new gens.new result)
+)
+    requires { CanAddBetween next.old words.old (heap links.old gens.old arena.old) start end rights p }
+    ensures { Pass next.old words.old (heap links.old gens.old arena.old) next.new words.new (heap links.new gens.new arena.new)
         (added start end rights (records_of next.old words.old)) }
 {
     let first = next[p];
     let z = skip_through(next, words, p, first, end);
     let off = narrow(next, p, z);
-    let left = apply_add(next, words, links, gens, arena, start, end, rights);
+    apply_add(next, words, links, gens, arena, start, end, rights);
     widen(next, p, off);
-    left
 }
 
 // The same remove, of those records alone.
@@ -652,22 +573,21 @@ fn remove_between(
     words: &mut [u64],
     links: &mut [usize],
     gens: &mut [u64],
-    arena: GenArena,
+    arena: &mut GenArena,
     p: usize,
     start: HostAddr,
     end: HostAddr,
     rights: u64,
-) -> GenArena
-    requires { CanRemoveBetween next.old words.old (heap links.old gens.old arena) start end rights p }
-    ensures { Pass next.old words.old (heap links.old gens.old arena) next.new words.new (heap links.new gens.new result)
+)
+    requires { CanRemoveBetween next.old words.old (heap links.old gens.old arena.old) start end rights p }
+    ensures { Pass next.old words.old (heap links.old gens.old arena.old) next.new words.new (heap links.new gens.new arena.new)
         (removed start end rights (records_of next.old words.old)) }
 {
     let first = next[p];
     let z = skip_through(next, words, p, first, end);
     let off = narrow(next, p, z);
-    let left = apply_remove(next, words, links, gens, arena, start, end, rights);
+    apply_remove(next, words, links, gens, arena, start, end, rights);
     widen(next, p, off);
-    left
 }
 
 // A compartment's list: its first slot, 1,024 for none; how many records it has, and how many it may have. A tracker is two
@@ -685,29 +605,8 @@ pub(crate) struct PermissionIterator {
     pub(crate) next: usize,
 }
 
-// The permission that a cursor came to, with the cursor behind it.
-#[derive(Clone, Copy)]
-pub(crate) enum NextPermission {
-    At(MemoryPermission, PermissionIterator),
-    End,
-}
-
-// What setting an allowance leaves of a tracker, and its answer.
-#[derive(Clone, Copy)]
-pub(crate) struct Allowed {
-    pub tracker: RegionTracker,
-    pub answer: Answer,
-}
-
-// What an add or a remove leaves of the list and the arena, and its answer.
-#[derive(Clone, Copy)]
-pub(crate) struct Changed {
-    pub tracker: RegionTracker,
-    pub arena: GenArena,
-    pub answer: Answer,
-}
-
 // What a walk finds out for an add. left is one more than the records that may still be taken beside those for the gaps met.
+// Each flag is the answer to a question of its own; none says whether another field counts.
 #[derive(Clone, Copy)]
 pub(crate) struct AddAsk {
     pub raisable: bool,
@@ -719,7 +618,8 @@ pub(crate) struct AddAsk {
     pub fresh: bool,
 }
 
-// What a walk finds out for a remove. lack is 1,025 less the records that may still be taken, and less those that go first.
+// What a walk finds out for a remove. lack is 1,025 less the records that may still be taken, and less those that go first. Its flags
+// are as those of an add.
 #[derive(Clone, Copy)]
 pub(crate) struct RemoveAsk {
     pub begun: bool,
@@ -731,144 +631,79 @@ pub(crate) struct RemoveAsk {
     pub gone: bool,
 }
 
-fn and(a: bool, b: bool) -> bool
-    ensures { result ≡ (a && b) }
-{
-    if a { b } else { false }
-}
-
-fn or(a: bool, b: bool) -> bool
-    ensures { result ≡ (a || b) }
-{
-    if a { true } else { b }
-}
-
 // Does the region share an address with the range?
+#[tactic(auto, using(std::proofs::lemmas::Bool::Decides::nat_tests), unfolding(definitions::specs::Regions::meets))]
 fn touches(r: Region, start: HostAddr, end: HostAddr) -> bool
     ensures { result ≡ meets start end r }
 {
-    and(start.0 < r.end.0, r.start.0 < end.0)
+    start < r.end && r.start < end
 }
 
-// Do the counts that the rights name pass, by whether each count does?
-fn every(
-    rights: u64,
-    read: bool,
-    write: bool,
-    exec: bool,
-    supervisor: bool,
-    uncacheable: bool,
-    device: bool,
-) -> bool
-    ensures { result ≡ every_of rights read write exec supervisor uncacheable device }
+// Does each count that a right names pass the test?
+fn every<F: Fn(u64) -> bool>(named: Counters, counts: Counters, passes: F) -> bool
+    requires { F.IsAlwaysCallable passes }
+    ensures { (p : ℕ → Bool) → ((n : ℕ) (b : Bool) → n < 2 ^ 64 → F.post passes n b → b ≡ p n) → result ≡ every_of p named counts }
 {
-    let c = MemOps(rights).as_counters();
-    let a = or(c.read == 0, read);
-    let b = or(c.write == 0, write);
-    let d = or(c.exec == 0, exec);
-    let e = or(c.supervisor == 0, supervisor);
-    let f = or(c.uncacheable == 0, uncacheable);
-    let g = or(c.device == 0, device);
-    and(a, and(b, and(d, and(e, and(f, g)))))
+    let read = passes(counts.read);
+    let write = passes(counts.write);
+    let exec = passes(counts.exec);
+    let supervisor = passes(counts.supervisor);
+    let uncacheable = passes(counts.uncacheable);
+    let device = passes(counts.device);
+    // `&` and `|` evaluate both sides: no branches.
+    ((named.read == 0) | read)
+        & ((named.write == 0) | write)
+        & ((named.exec == 0) | exec)
+        & ((named.supervisor == 0) | supervisor)
+        & ((named.uncacheable == 0) | uncacheable)
+        & ((named.device == 0) | device)
 }
 
 // Question 4 of one region: yes of one that is not touched.
 fn can_rise(touched: bool, v: Values, rights: u64) -> bool
     ensures { result ≡ (not touched || low_enough rights v) }
 {
-    if !touched {
-        return true;
-    }
-    let c = v.counters;
-    and(
-        v.refcount < 65535,
-        every(
-            rights,
-            c.read < 65535,
-            c.write < 65535,
-            c.exec < 65535,
-            c.supervisor < 65535,
-            c.uncacheable < 65535,
-            c.device < 65535,
-        ),
-    )
+    let named = MemOps(rights).as_counters();
+    !touched || (v.refcount < 65535 && every(named, v.counters, |n| n < 65535))
 }
 
 // Question 8 of one region: yes of one that is not touched.
 fn can_fall(touched: bool, v: Values, rights: u64) -> bool
     ensures { result ≡ (not touched || every_named (λ n. 0 <? n) rights v) }
 {
-    if !touched {
-        return true;
-    }
-    let c = v.counters;
-    every(
-        rights,
-        0 < c.read,
-        0 < c.write,
-        0 < c.exec,
-        0 < c.supervisor,
-        0 < c.uncacheable,
-        0 < c.device,
-    )
+    let named = MemOps(rights).as_counters();
+    !touched || every(named, v.counters, |n| 0 < n)
 }
 
 // Does a region keep each right that is named when one is taken from it? Yes of one that is not touched.
 fn none_is_last(touched: bool, v: Values, rights: u64) -> bool
     ensures { result ≡ (not touched || every_named (λ n. not (n =? 1)) rights v) }
 {
-    if !touched {
-        return true;
-    }
-    let c = v.counters;
-    every(
-        rights,
-        c.read != 1,
-        c.write != 1,
-        c.exec != 1,
-        c.supervisor != 1,
-        c.uncacheable != 1,
-        c.device != 1,
-    )
+    let named = MemOps(rights).as_counters();
+    !touched || every(named, v.counters, |n| n != 1)
 }
 
 fn next_from(r: Region, from: HostAddr, end: HostAddr) -> HostAddr
     ensures { result ≡ gap_from end from r }
 {
     if r.end.0 <= from.0 {
-        return from;
+        from
+    } else if end.0 <= r.start.0 {
+        end
+    } else {
+        r.end
     }
-    if end.0 <= r.start.0 {
-        return end;
-    }
-    r.end
 }
 
+#[tactic(auto, using(std::proofs::lemmas::Bool::Decides::nat_tests), unfolding(crate::specs::RegionAsks::gap_here))]
 fn has_gap(r: Region, from: HostAddr, end: HostAddr) -> bool
     ensures { result ≡ gap_here end from r }
 {
-    if r.end.0 <= from.0 {
-        return false;
-    }
-    if end.0 <= r.start.0 {
-        return from.0 < end.0;
-    }
-    from.0 < r.start.0
+    let to = end.0.min(r.start.0);
+    (from.0 < r.end.0) & (from.0 < to)
 }
 
-// One less if so, and not below 0.
-fn less(n: usize, one: bool) -> usize
-    ensures { result ≡ n - bit one }
-{
-    if one {
-        if 0 < n {
-            return n - 1;
-        }
-        return 0;
-    }
-    n
-}
-
+#[tactic(auto, unfolding(crate::specs::RegionAsks::add_step))]
 fn add_step(ask: AddAsk, r: Region, start: HostAddr, end: HostAddr, rights: u64) -> AddAsk
     ensures { result ≡ add_step start end rights ask r }
 {
@@ -876,42 +711,25 @@ fn add_step(ask: AddAsk, r: Region, start: HostAddr, end: HostAddr, rights: u64)
     let low = can_rise(touched, r.values, rights);
     let above = can_fall(touched, r.values, rights);
     let here = has_gap(r, ask.from, end);
-    let raisable = and(ask.raisable, low);
-    let cuts_start = or(ask.cuts_start, has_inside(r, start));
-    let cuts_end = or(ask.cuts_end, has_inside(r, end));
-    let left = less(ask.left, here);
-    let from = next_from(r, ask.from, end);
-    let gap = or(ask.gap, here);
-    let fresh = or(ask.fresh, and(touched, !above));
     AddAsk {
-        raisable,
-        cuts_start,
-        cuts_end,
-        left,
-        from,
-        gap,
-        fresh,
+        raisable: ask.raisable && low,
+        cuts_start: ask.cuts_start || has_inside(r, start),
+        cuts_end: ask.cuts_end || has_inside(r, end),
+        left: ask.left.saturating_sub(usize::from(here)),
+        from: next_from(r, ask.from, end),
+        gap: ask.gap || here,
+        fresh: ask.fresh || (touched && !above),
     }
 }
 
+#[tactic(auto, using(std::proofs::lemmas::Bool::Decides::nat_tests), unfolding(crate::specs::RegionAsks::frees_one))]
 fn frees_one(r: Region, start: HostAddr, end: HostAddr) -> bool
     ensures { result ≡ frees_one start end r }
 {
-    and(
-        and(start.0 < r.end.0, r.end.0 <= end.0),
-        r.values.refcount == 1,
-    )
+    start < r.end && r.end <= end && r.values.refcount == 1
 }
 
-fn last_of(r: Region, start: HostAddr, last: HostAddr) -> HostAddr
-    ensures { result ≡ (if r.start.0 ≤? start.0 then r.end else last) }
-{
-    if r.start.0 <= start.0 {
-        return r.end;
-    }
-    last
-}
-
+#[tactic(auto, unfolding(crate::specs::RegionAsks::remove_step))]
 fn remove_step(ask: RemoveAsk, r: Region, start: HostAddr, end: HostAddr, rights: u64) -> RemoveAsk
     ensures { result ≡ remove_step start end rights ask r }
 {
@@ -919,21 +737,15 @@ fn remove_step(ask: RemoveAsk, r: Region, start: HostAddr, end: HostAddr, rights
     let above = can_fall(touched, r.values, rights);
     let stay = none_is_last(touched, r.values, rights);
     let frees = frees_one(r, start, end);
-    let begun = or(ask.begun, r.start.0 <= start.0);
-    let last = last_of(r, start, ask.last);
-    let cuts_start = or(ask.cuts_start, has_inside(r, start));
-    let cuts_end = or(ask.cuts_end, has_inside(r, end));
-    let lack = less(ask.lack, frees);
-    let lowerable = and(ask.lowerable, above);
-    let gone = or(ask.gone, and(touched, or(r.values.refcount == 1, !stay)));
+    let begins = r.start <= start;
     RemoveAsk {
-        begun,
-        last,
-        cuts_start,
-        cuts_end,
-        lack,
-        lowerable,
-        gone,
+        begun: ask.begun || begins,
+        last: if begins { r.end } else { ask.last },
+        cuts_start: ask.cuts_start || has_inside(r, start),
+        cuts_end: ask.cuts_end || has_inside(r, end),
+        lack: ask.lack.saturating_sub(usize::from(frees)),
+        lowerable: ask.lowerable && above,
+        gone: ask.gone || (touched && (r.values.refcount == 1 || !stay)),
     }
 }
 
@@ -941,10 +753,7 @@ fn remove_step(ask: RemoveAsk, r: Region, start: HostAddr, end: HostAddr, rights
 fn lies_above(r: Region, start: HostAddr, end: HostAddr) -> bool
     ensures { result ≡ true → (start.0 ≤ r.start.0) × (end.0 ≤ r.start.0) }
 {
-    if r.start.0 < start.0 {
-        return false;
-    }
-    end.0 <= r.start.0
+    start.0.max(end.0) <= r.start.0
 }
 
 // The last slot passed, whose record tells whether one begins at or below start; the head if none was passed.
@@ -952,9 +761,10 @@ fn last_or(skipped: Skipped, head: usize) -> usize
     ensures { result ≡ (if skipped.last <? 1024 then skipped.last else head) }
 {
     if skipped.last < 1024 {
-        return skipped.last;
+        skipped.last
+    } else {
+        head
     }
-    head
 }
 
 // The questions of an add, region by region. What ends below start answers none of them, and after a region that begins at or
@@ -985,7 +795,7 @@ fn walk_add(
     while cur < 1024 {
         let r = load(words, cur);
         ask = add_step(ask, r, start, end, rights);
-        if and(ask.from.0 == end.0, lies_above(r, start, end)) {
+        if ask.from.0 == end.0 && lies_above(r, start, end) {
             return ask;
         }
         cur = next[cur];
@@ -1028,38 +838,61 @@ fn walk_remove(
     ask
 }
 
-fn number(b: bool) -> u64
-    ensures { result ≡ bit b }
+// Questions 2 and 3.
+#[tactic(auto, using(std::proofs::lemmas::Bool::Decides::nat_tests), unfolding(definitions::specs::Questions::ranged, definitions::specs::Questions::ask))]
+fn in_range(start: HostAddr, end: HostAddr, rights: u64) -> Result<(), Refusal>
+    ensures { (rest : Answer) → ranged start end rights rest ≡ answer_after result start end rest }
 {
-    if b { 1 } else { 0 }
-}
-
-// The refusal, where a question got a no.
-fn pick(yes: bool, no: Refusal, answer: Answer) -> Answer
-    ensures { result ≡ (if yes then answer else Refused no) }
-{
-    if yes {
-        return answer;
+    let valid = rights < 64;
+    if !valid {
+        return Err(Refusal::InvalidMemOps);
     }
-    Answer::Refused(no)
-}
-
-fn unless_empty(start: HostAddr, end: HostAddr, answer: Answer) -> Answer
-    ensures { result ≡ (if start.0 =? end.0 then Accepted 0 else answer) }
-{
-    if start.0 == end.0 {
-        return Answer::Accepted(0);
+    let ordered = start.0 <= end.0;
+    if !ordered {
+        return Err(Refusal::InvalidRange);
     }
-    answer
+    Ok(())
 }
 
-// Questions 2 and 3, and an empty range, before the rest.
-fn in_range(start: HostAddr, end: HostAddr, rights: u64, answer: Answer) -> Answer
-    ensures { result ≡ ranged start end rights answer }
+// Questions 4 and 5, by what a walk found out. A gap may be left behind the last region.
+#[tactic(auto, using(std::proofs::lemmas::Bool::Decides::nat_tests), unfolding(crate::specs::RegionAsks::judged_add, definitions::specs::Questions::ask))]
+fn judge_add(ask: AddAsk, end: HostAddr) -> Answer
+    ensures { result ≡ judged_add end ask }
 {
-    let rest = unless_empty(start, end, answer);
-    let third = pick(start.0 <= end.0, Refusal::InvalidRange, rest);
-    pick(rights < 64, Refusal::InvalidMemOps, third)
+    if !ask.raisable {
+        return Err(Refusal::CountFull);
+    }
+    let last = ask.from.0 < end.0;
+    let cuts = usize::from(ask.cuts_start) + usize::from(ask.cuts_end);
+    let fits = usize::from(last) + cuts < ask.left;
+    if !fits {
+        return Err(Refusal::OutOfMemory);
+    }
+    Ok(u64::from(ask.gap | last | ask.fresh))
+}
+
+// Questions 6, 7, 5 and 8, by what a walk found out.
+#[tactic(auto, using(std::proofs::lemmas::Bool::Decides::nat_tests), unfolding(crate::specs::RegionAsks::judged_remove, definitions::specs::Questions::ask))]
+fn judge_remove(ask: RemoveAsk, room: usize, start: HostAddr) -> Answer
+    ensures { result ≡ judged_remove room start ask }
+{
+    if !ask.begun {
+        return Err(Refusal::InvalidRegion);
+    }
+    let reaches = start.0 < ask.last.0;
+    if !reaches {
+        return Err(Refusal::EndedBefore);
+    }
+    let first = !ask.cuts_start | (0 < room);
+    let second = !ask.cuts_end | (ask.lack <= 1024 - usize::from(ask.cuts_start));
+    let fits = first & second;
+    if !fits {
+        return Err(Refusal::OutOfMemory);
+    }
+    if !ask.lowerable {
+        return Err(Refusal::CountEmpty);
+    }
+    Ok(u64::from(ask.gone))
 }
 
 // The whole answer of an add to the list from head, which may take room records more.
@@ -1076,14 +909,12 @@ pub(crate) fn ask_add(
     requires { AskableAt next.now words.now head room start end skipped }
     ensures { result ≡ add_on (length (stored_at next.now words.now head) + room) (stored_at next.now words.now head) start end rights }
 {
+    in_range(start, end, rights)?;
+    if start.0 == end.0 {
+        return Ok(0);
+    }
     let ask = walk_add(next, words, head, skipped, room, start, end, rights);
-    let last = ask.from.0 < end.0;
-    let left = less(less(less(ask.left, last), ask.cuts_start), ask.cuts_end);
-    let changed = or(or(ask.gap, last), ask.fresh);
-    let done = Answer::Accepted(number(changed));
-    let fifth = pick(0 < left, Refusal::OutOfMemory, done);
-    let fourth = pick(ask.raisable, Refusal::CountFull, fifth);
-    in_range(start, end, rights, fourth)
+    judge_add(ask, end)
 }
 
 // The whole answer of a remove.
@@ -1100,27 +931,23 @@ pub(crate) fn ask_remove(
     requires { AskableAt next.now words.now head room start end skipped }
     ensures { result ≡ remove_on (length (stored_at next.now words.now head) + room) (stored_at next.now words.now head) start end rights }
 {
+    in_range(start, end, rights)?;
+    if start.0 == end.0 {
+        return Ok(0);
+    }
     let ask = walk_remove(next, words, head, skipped, room, start, end, rights);
-    let first = or(!ask.cuts_start, 0 < room);
-    let second = or(!ask.cuts_end, ask.lack <= less(1024, ask.cuts_start));
-    let done = Answer::Accepted(number(ask.gone));
-    let eighth = pick(ask.lowerable, Refusal::CountEmpty, done);
-    let fifth = pick(and(first, second), Refusal::OutOfMemory, eighth);
-    let seventh = pick(start.0 < ask.last.0, Refusal::EndedBefore, fifth);
-    let sixth = pick(ask.begun, Refusal::InvalidRegion, seventh);
-    in_range(start, end, rights, sixth)
+    judge_remove(ask, room, start)
 }
 
+#[tactic(auto, unfolding(crate::specs::RegionAsks::most_of))]
 fn most(n: u64, r: Region, start: HostAddr, end: HostAddr) -> u64
     ensures { result ≡ most_of start end n r }
 {
     if touches(r, start, end) {
-        if n < r.values.refcount {
-            return r.values.refcount;
-        }
-        return n;
+        n.max(r.values.refcount)
+    } else {
+        n
     }
-    n
 }
 
 fn permission(r: Region) -> MemoryPermission
@@ -1153,45 +980,28 @@ impl RegionTracker {
     }
 
     // The list has another first slot, and as many records more as the pool has free slots fewer.
-    fn recounted(self, head: usize, before: usize, after: usize) -> RegionTracker
-        requires { (self.count + before < 2 ^ 32) × (after ≤ self.count + before) }
-        ensures { result ≡ record { head = head; count = self.count + before - after; allowance = self.allowance } }
+    fn recount(&mut self, head: usize, before: usize, after: usize)
+        requires { (self.old.count + before < 2 ^ 32) × (after ≤ self.old.count + before) }
+        ensures { self.new ≡ record { head = head; count = self.old.count + before - after; allowance = self.old.allowance } }
     {
-        RegionTracker {
-            head,
-            count: (self.count as usize + before - after) as u32,
-            allowance: self.allowance,
-        }
+        self.head = head;
+        self.count = (self.count as usize + before - after) as u32;
     }
 
     // Another allowance, where the other compartments' are so many together.
-    pub(crate) fn allow(self, others: usize, allowance: u64) -> Allowed
+    pub(crate) fn allow(&mut self, others: usize, allowance: u64) -> Answer
         requires { others ≤ 1024 }
-        ensures { AllowsOne self others allowance result }
+        ensures { AllowsOne self.old others allowance self.new result }
     {
         let rest = 1024 - others;
         if (rest as u64) < allowance {
-            return Allowed {
-                tracker: self,
-                answer: Answer::Refused(Refusal::PoolExceeded),
-            };
+            return Err(Refusal::PoolExceeded);
         }
-        let count = self.count;
-        if allowance < (count as u64) {
-            return Allowed {
-                tracker: self,
-                answer: Answer::Refused(Refusal::StillInUse),
-            };
+        if allowance < (self.count as u64) {
+            return Err(Refusal::StillInUse);
         }
-        let head = self.head;
-        Allowed {
-            tracker: RegionTracker {
-                head,
-                count,
-                allowance: allowance as u32,
-            },
-            answer: Answer::Accepted(0),
-        }
+        self.allowance = allowance as u32;
+        Ok(0)
     }
 
     // The most holders of a region that shares an address with the range. Those that end below it are passed by their ends alone,
@@ -1228,117 +1038,101 @@ impl RegionTracker {
     }
 
     pub(crate) fn add_region(
-        self,
+        &mut self,
         next: &mut [usize],
         words: &mut [u64],
         links: &mut [usize],
         gens: &mut [u64],
-        arena: GenArena,
+        arena: &mut GenArena,
         start: HostAddr,
         end: HostAddr,
         rights: u64,
-    ) -> Changed
-        requires { Allotted next.old words.old (heap links.old gens.old arena) self }
-        ensures { AddsRegion next.old words.old (heap links.old gens.old arena) self start end rights next.new words.new links.new gens.new result }
+    ) -> Answer
+        requires { Allotted next.old words.old (heap links.old gens.old arena.old) self.old }
+        ensures { AddsRegion next.old words.old (heap links.old gens.old arena.old) self.old start end rights next.new words.new (heap links.new gens.new arena.new) self.new result }
     {
         let head = self.head;
         let room = self.room();
-        let low = lesser(start, end);
+        let low = HostAddr(start.0.min(end.0));
         let skipped = skip_below(next, words, head, low);
-        let answer = ask_add(next, words, head, skipped, room, start, end, rights);
-        if start.0 == end.0 {
-            return Changed {
-                tracker: self,
+        let changed = ask_add(next, words, head, skipped, room, start, end, rights)?;
+        if start.0 != end.0 {
+            let before = arena.capacity(links);
+            next[1024] = head;
+            add_between(
+                next,
+                words,
+                links,
+                gens,
                 arena,
-                answer,
-            };
+                skipped.last,
+                start,
+                end,
+                rights,
+            );
+            let after = arena.capacity(links);
+            self.recount(next[1024], before, after);
         }
-        match answer {
-            Answer::Accepted(_) => {
-                let p = skipped.last;
-                let before = arena.capacity(links);
-                next[1024] = head;
-                let left = add_between(next, words, links, gens, arena, p, start, end, rights);
-                let first = next[1024];
-                let after = left.capacity(links);
-                let tracker = self.recounted(first, before, after);
-                Changed {
-                    tracker,
-                    arena: left,
-                    answer,
-                }
-            }
-            Answer::Refused(_) => Changed {
-                tracker: self,
-                arena,
-                answer,
-            },
-        }
+        Ok(changed)
     }
 
     pub(crate) fn remove_region(
-        self,
+        &mut self,
         next: &mut [usize],
         words: &mut [u64],
         links: &mut [usize],
         gens: &mut [u64],
-        arena: GenArena,
+        arena: &mut GenArena,
         start: HostAddr,
         end: HostAddr,
         rights: u64,
-    ) -> Changed
-        requires { Allotted next.old words.old (heap links.old gens.old arena) self }
-        ensures { RemovesRegion next.old words.old (heap links.old gens.old arena) self start end rights next.new words.new links.new gens.new result }
+    ) -> Answer
+        requires { Allotted next.old words.old (heap links.old gens.old arena.old) self.old }
+        ensures { RemovesRegion next.old words.old (heap links.old gens.old arena.old) self.old start end rights next.new words.new (heap links.new gens.new arena.new) self.new result }
     {
         let head = self.head;
         let room = self.room();
-        let low = lesser(start, end);
+        let low = HostAddr(start.0.min(end.0));
         let skipped = skip_below(next, words, head, low);
-        let answer = ask_remove(next, words, head, skipped, room, start, end, rights);
-        if start.0 == end.0 {
-            return Changed {
-                tracker: self,
+        let gone = ask_remove(next, words, head, skipped, room, start, end, rights)?;
+        if start.0 != end.0 {
+            let before = arena.capacity(links);
+            next[1024] = head;
+            remove_between(
+                next,
+                words,
+                links,
+                gens,
                 arena,
-                answer,
-            };
+                skipped.last,
+                start,
+                end,
+                rights,
+            );
+            let after = arena.capacity(links);
+            self.recount(next[1024], before, after);
         }
-        match answer {
-            Answer::Accepted(_) => {
-                let p = skipped.last;
-                let before = arena.capacity(links);
-                next[1024] = head;
-                let left = remove_between(next, words, links, gens, arena, p, start, end, rights);
-                let first = next[1024];
-                let after = left.capacity(links);
-                let tracker = self.recounted(first, before, after);
-                Changed {
-                    tracker,
-                    arena: left,
-                    answer,
-                }
-            }
-            Answer::Refused(_) => Changed {
-                tracker: self,
-                arena,
-                answer,
-            },
-        }
+        Ok(gone)
     }
 }
 
 impl PermissionIterator {
     // The permission of the next record. No record is without a holder, so none is passed over.
-    pub(crate) fn next(self, next: &[usize], words: &[u64]) -> NextPermission
+    pub(crate) fn next(
+        self,
+        next: &[usize],
+        words: &[u64],
+    ) -> Option<(MemoryPermission, PermissionIterator)>
         requires { Walkable next.now words.now self.next }
         ensures { Steps next.now words.now self result }
     {
         let h = self.next;
         if h >= 1024 {
-            return NextPermission::End;
+            return None;
         }
         let r = load(words, h);
         let p = permission(r);
         let after = next[h];
-        NextPermission::At(p, PermissionIterator { next: after })
+        Some((p, PermissionIterator { next: after }))
     }
 }

@@ -11,9 +11,11 @@ ghost use Rattle.capability_engine.specs.PoolChain.{slots, Listed, Walkable, sto
 ghost use Rattle.capability_engine.specs.RegionListing.{permissions_from};
 ghost use Rattle.capability_engine.specs.SegmentWords.{segments_from, segment_at};
 ghost use Rattle.capability_engine.specs.StreamCursor.{Whole, Table, Ready, Says, Turned, Met, remaining, to_go, goes_on, begins, runs, last_turn, first_turn};
+ghost use Rattle.capability_engine.specs.StreamLists.{Stands, Turns, Tells, coming, streamed};
 ghost use Rattle.capability_engine.specs.declared.stream.Turn.TheVariants.{Yields};
 
-use crate::region::{NextPermission, PermissionIterator, RegionTracker, load, save};
+use crate::lists::Lists;
+use crate::region::{PermissionIterator, RegionTracker, load, save};
 use crate::remapper::put_segment;
 use definitions::{GuestAddr, HostAddr, Mapping, MemoryPermission, RECORD_LEN, Region, Segment};
 
@@ -33,26 +35,12 @@ pub(crate) struct RemapCursor {
     pub(crate) end: HostAddr,
 }
 
-// The next mapping with the cursor after it, or the end.
-#[derive(Clone, Copy)]
-pub(crate) enum Step {
-    Found(Mapping, RemapCursor),
-    Done,
-}
-
 // What one turn of a cursor does: it may yield nothing and move on.
 #[derive(Clone, Copy)]
 pub(crate) enum Turn {
     Yields(Mapping, RemapCursor),
     Skips(RemapCursor),
     Ends,
-}
-
-// A mapping that a turn yields, with the cursor behind it.
-#[derive(Clone, Copy)]
-pub(crate) struct Yielded {
-    pub(crate) mapping: Mapping,
-    pub(crate) cursor: RemapCursor,
 }
 
 fn load_segment(segments: &[u64], i: usize) -> Segment
@@ -68,96 +56,53 @@ fn load_segment(segments: &[u64], i: usize) -> Segment
     }
 }
 
-fn lesser(a: u64, b: u64) -> u64
-    ensures { result ≡ min a b }
-{
-    if a < b { a } else { b }
-}
-
-fn greater(a: u64, b: u64) -> u64
-    ensures { result ≡ max a b }
-{
-    if a < b { b } else { a }
-}
-
 // What a segment that ends at end yields at a record that it meets.
+#[tactic(auto, unfolding(definitions::specs::Stream::shared_part, definitions::specs::Segments::host_end, definitions::specs::Tests::host_up, definitions::specs::Tests::guest_up, definitions::specs::Tests::host))]
 fn share(s: Segment, end: HostAddr, r: Region) -> Mapping
     requires { Met s end r }
     ensures { result ≡ shared_part s r }
 {
-    let h = s.hpa.0;
-    let a = greater(h, r.start.0);
-    let e = lesser(end.0, r.end.0);
-    let ops = r.get_ops();
+    let a = s.hpa.0.max(r.start.0);
+    let e = end.0.min(r.end.0);
     Mapping {
         hpa: HostAddr(a),
-        gpa: GuestAddr(s.gpa.0 + (a - h)),
+        gpa: GuestAddr(s.gpa.0 + (a - s.hpa.0)),
         size: e - a,
         repeat: s.repeat,
-        ops,
+        ops: r.get_ops(),
     }
 }
 
 // The identity mapping of the part [start, end) of a record.
+#[tactic(auto, unfolding(definitions::specs::Stream::identity, definitions::specs::Regions::region, definitions::specs::Tests::host, definitions::specs::Tests::guest))]
 fn plain(start: u64, end: u64, r: Region) -> Mapping
     requires { start ≤ end }
     ensures { result ≡ identity (region (host start) (host end) r.values) }
 {
-    let ops = r.get_ops();
     Mapping {
         hpa: HostAddr(start),
         gpa: GuestAddr(start),
         size: end - start,
         repeat: 1,
-        ops,
-    }
-}
-
-// Has the segment that was begun last a record more?
-fn goes_on(c: RemapCursor, words: &[u64]) -> bool
-    requires { length words.now ≡ pool_len }
-    ensures { result ≡ goes_on words.now c }
-{
-    let i = c.ongoing;
-    if i < 1024 {
-        let b = RECORD_LEN * i;
-        words[b] < c.end.0
-    } else {
-        false
+        ops: r.get_ops(),
     }
 }
 
 // The record passed up to `to`: the next one if that is its end.
+#[tactic(auto, using(std::proofs::lemmas::Bool::Decides::nat_tests))]
 fn after(end: u64, to: u64, here: usize, next: usize) -> usize
     ensures { result ≡ (if to =? end then next else here) }
 {
     if to == end { next } else { here }
 }
 
-// The segment that was begun last yields at its next record.
-fn go_on(c: RemapCursor, next: &[usize], words: &[u64], segments: &[u64], n: usize) -> Yielded
-    requires table { Table words.now segments.now n }
-    requires ready { Ready next.now words.now segments.now n c }
-    requires c_value { goes_on words.now c ≡ true }
-    ensures { Turned next.now words.now segments.now n c (Yields result.mapping result.cursor) }
-{
-    let i = c.ongoing;
-    let r = load(words, i);
-    let s = load_segment(segments, c.segment - 1);
-    let end = c.end;
-    let mapping = share(s, end, r);
-    let mut cursor = c;
-    cursor.ongoing = next[i];
-    Yielded { mapping, cursor }
-}
-
 // The part [from, to) of a record is yielded, if there is one.
+#[tactic(auto, using(std::proofs::lemmas::Bool::Decides::nat_tests), unfolding(crate::specs::StreamCursor::runs))]
 fn run_turn(from: u64, to: u64, r: Region, d: RemapCursor) -> Turn
     ensures { result ≡ runs from to r d }
 {
     if from < to {
-        let m = plain(from, to, r);
-        return Turn::Yields(m, d);
+        return Turn::Yields(plain(from, to, r), d);
     }
     Turn::Skips(d)
 }
@@ -166,29 +111,28 @@ fn run_turn(from: u64, to: u64, r: Region, d: RemapCursor) -> Turn
 fn last_turn(c: RemapCursor, r: Region, beyond: usize) -> Turn
     ensures { result ≡ last_turn c r beyond }
 {
-    let low = greater(c.at.0, r.start.0);
-    let from = greater(low, c.covered.0);
-    let mut d = c;
-    d.region = beyond;
-    let to = r.end;
-    d.at = to;
-    d.ongoing = 1024;
-    run_turn(from, to.0, r, d)
+    let from = c.at.0.max(r.start.0).max(c.covered.0);
+    let d = RemapCursor {
+        region: beyond,
+        at: r.end,
+        ongoing: 1024,
+        ..c
+    };
+    run_turn(from, r.end.0, r, d)
 }
 
 // The next segment begins above where the record is passed to: the record is passed up to there.
 fn first_turn(c: RemapCursor, r: Region, h: HostAddr, beyond: usize) -> Turn
     ensures { result ≡ first_turn c r h beyond }
 {
-    let low = greater(c.at.0, r.start.0);
-    let from = greater(low, c.covered.0);
-    let to = lesser(r.end.0, h.0);
-    let region = after(r.end.0, to, c.region, beyond);
-    let at = HostAddr(to);
-    let mut d = c;
-    d.region = region;
-    d.at = at;
-    d.ongoing = 1024;
+    let from = c.at.0.max(r.start.0).max(c.covered.0);
+    let to = r.end.0.min(h.0);
+    let d = RemapCursor {
+        region: after(r.end.0, to, c.region, beyond),
+        at: HostAddr(to),
+        ongoing: 1024,
+        ..c
+    };
     run_turn(from, to, r, d)
 }
 
@@ -199,153 +143,15 @@ fn begin(c: RemapCursor, s: Segment) -> RemapCursor
     ensures { result ≡ begins c s }
 {
     let end = s.hpa.0 + s.size;
-    let covered = greater(c.covered.0, end);
-    let at = s.hpa;
+    let covered = c.covered.0.max(end);
     RemapCursor {
         region: c.region,
-        at,
+        at: s.hpa,
         covered: HostAddr(covered),
         segment: c.segment + 1,
         ongoing: c.region,
         end: HostAddr(end),
     }
-}
-
-// One turn: a mapping of the segment begun last, or a record part before the next segment, or that segment is begun.
-fn take_turn(c: RemapCursor, next: &[usize], words: &[u64], segments: &[u64], n: usize) -> Turn
-    requires table { Table words.now segments.now n }
-    requires ready { Ready next.now words.now segments.now n c }
-    ensures { Turned next.now words.now segments.now n c result }
-{
-    if goes_on(c, words) {
-        let y = go_on(c, next, words, segments, n);
-        let m = y.mapping;
-        let d = y.cursor;
-        return Turn::Yields(m, d);
-    }
-    let here = c.region;
-    if here >= 1024 {
-        return Turn::Ends;
-    }
-    let r = load(words, here);
-    let beyond = next[here];
-    let begun = c.segment;
-    if begun >= n {
-        return last_turn(c, r, beyond);
-    }
-    let s = load_segment(segments, begun);
-    let low = greater(c.at.0, r.start.0);
-    let h = s.hpa;
-    if h.0 <= low {
-        let d = begin(c, s);
-        return Turn::Skips(d);
-    }
-    first_turn(c, r, h, beyond)
-}
-
-// The next mapping. A turn that yields none skips on: the function calls itself.
-// That call's answer is taken apart and built again: the compiler then keeps a mapping in registers.
-pub(crate) fn next_mapping(
-    c: RemapCursor,
-    next: &[usize],
-    words: &[u64],
-    segments: &[u64],
-    n: usize,
-) -> Step
-    requires table { Table words.now segments.now n }
-    requires ready { Ready next.now words.now segments.now n c }
-    ensures { Says next.now words.now segments.now n c result }
-{
-    let t = take_turn(c, next, words, segments, n);
-    match t {
-        Turn::Yields(m, d) => Step::Found(m, d),
-        Turn::Skips(d) => {
-            let s = next_mapping(d, next, words, segments, n);
-            match s {
-                Step::Found(m, e) => Step::Found(m, e),
-                Step::Done => Step::Done,
-            }
-        }
-        Turn::Ends => Step::Done,
-    }
-}
-
-// A cursor before the first mapping.
-pub(crate) fn start(
-    next: &[usize],
-    words: &[u64],
-    segments: &[u64],
-    n: usize,
-    head: usize,
-) -> RemapCursor
-    requires table { Table words.now segments.now n }
-    requires whole { Whole next.now words.now head }
-    ensures ready { Ready next.now words.now segments.now n result }
-    ensures result_value { remaining next.now words.now segments.now n result
-        ≡ stream (stored_at next.now words.now head) (segments_from segments.now 0 n) }
-    ensures result_bound { to_go next.now words.now segments.now n result
-        ≤ 2 * (length (stored_at next.now words.now head) + n) + 1 }
-{
-    RemapCursor {
-        region: head,
-        at: HostAddr(0),
-        covered: HostAddr(0),
-        segment: 0,
-        ongoing: 1024,
-        end: HostAddr(0),
-    }
-}
-
-// The number of mappings from a cursor on.
-pub(crate) fn count(
-    from: RemapCursor,
-    next: &[usize],
-    words: &[u64],
-    segments: &[u64],
-    n: usize,
-) -> usize
-    requires table { Table words.now segments.now n }
-    requires ready { Ready next.now words.now segments.now n from }
-    ensures { result ≡ length (remaining next.now words.now segments.now n from) }
-{
-    let mut c = from;
-    let mut k: usize = 0;
-    loop {
-        let s = next_mapping(c, next, words, segments, n);
-        let Step::Found(_, d) = s else {
-            return k;
-        };
-        c = d;
-        k += 1;
-    }
-}
-
-// The cursor k mappings on.
-pub(crate) fn advance(
-    from: RemapCursor,
-    next: &[usize],
-    words: &[u64],
-    segments: &[u64],
-    n: usize,
-    k: usize,
-) -> RemapCursor
-    requires table { Table words.now segments.now n }
-    requires ready { Ready next.now words.now segments.now n from }
-    ensures ready_2 { Ready next.now words.now segments.now n result }
-    ensures result_value { remaining next.now words.now segments.now n result
-        ≡ drop k (remaining next.now words.now segments.now n from) }
-{
-    let mut c = from;
-    let mut i: usize = 0;
-    while i < k {
-        let s = next_mapping(c, next, words, segments, n);
-        let Step::Found(_, d) = s else {
-            return c;
-        };
-        c = d;
-        i += 1;
-    }
-    c
 }
 
 // A mapping is group i of the slice.
@@ -361,43 +167,144 @@ fn put_mapping(out: &mut [u64], i: usize, m: Mapping)
     out[b + 4] = m.ops.0;
 }
 
-// The mappings from a cursor on, as many as there are and as fit.
-// A segment that goes on skips nothing, so its mappings are taken here, without the call that skips.
-fn fill(
-    from: RemapCursor,
-    next: &[usize],
-    words: &[u64],
-    segments: &[u64],
-    n: usize,
-    out: &mut [u64],
-) -> usize
-    requires table { Table words.now segments.now n }
-    requires ready { Ready next.now words.now segments.now n from }
-    ensures { Filled 5 (map mapping_group (remaining next.now words.now segments.now n from)) 0
-        out.old out.new result }
-{
-    let room = out.len() / 5;
-    let mut c = from;
-    let mut i: usize = 0;
-    while i < room {
-        if goes_on(c, words) {
-            let y = go_on(c, next, words, segments, n);
-            let m = y.mapping;
-            put_mapping(out, i, m);
-            let d = y.cursor;
-            c = d;
-            i += 1;
-        } else {
-            let s = next_mapping(c, next, words, segments, n);
-            let Step::Found(m, d) = s else {
-                return i;
-            };
-            put_mapping(out, i, m);
-            c = d;
-            i += 1;
+impl Lists<'_> {
+    // Has the segment that was begun last a record more?
+    #[tactic(auto, using(std::proofs::lemmas::Bool::Decides::nat_tests), unfolding(crate::specs::StreamCursor::goes_on, crate::specs::PoolWords::region_at))]
+    fn goes_on(self, c: RemapCursor) -> bool
+        ensures { result ≡ goes_on self.entry.words.now c }
+    {
+        c.ongoing < 1024 && self.words[RECORD_LEN * c.ongoing] < c.end.0
+    }
+
+    // The segment that was begun last yields at its next record.
+    fn go_on(self, c: RemapCursor) -> (Mapping, RemapCursor)
+        requires ready { Stands self c }
+        requires c_value { goes_on self.words.now c ≡ true }
+        ensures { Turns self.entry c (Yields result.0 result.1) }
+    {
+        let i = c.ongoing;
+        let r = load(self.words, i);
+        let s = load_segment(self.segments, c.segment - 1);
+        let end = c.end;
+        let m = share(s, end, r);
+        let ongoing = self.next[i];
+        (m, RemapCursor { ongoing, ..c })
+    }
+
+    // One turn: a mapping of the segment begun last, or a record part before the next segment, or that segment is begun.
+    fn take_turn(self, c: RemapCursor) -> Turn
+        requires { Stands self c }
+        ensures { Turns self.entry c result }
+    {
+        if self.goes_on(c) {
+            let (m, d) = self.go_on(c);
+            return Turn::Yields(m, d);
+        }
+        let here = c.region;
+        if here >= 1024 {
+            return Turn::Ends;
+        }
+        let r = load(self.words, here);
+        let beyond = self.next[here];
+        let begun = c.segment;
+        if begun >= self.n {
+            return last_turn(c, r, beyond);
+        }
+        let s = load_segment(self.segments, begun);
+        let low = c.at.0.max(r.start.0);
+        if s.hpa.0 <= low {
+            return Turn::Skips(begin(c, s));
+        }
+        first_turn(c, r, s.hpa, beyond)
+    }
+
+    // The next mapping. A turn that yields none skips on: the function calls itself.
+    // That call's answer is taken apart and built again: the compiler then keeps a mapping in registers, and reads are faster.
+    pub(crate) fn next_mapping(self, c: RemapCursor) -> Option<(Mapping, RemapCursor)>
+        requires { Stands self c }
+        ensures { Tells self.entry c result }
+    {
+        match self.take_turn(c) {
+            Turn::Yields(m, d) => Some((m, d)),
+            Turn::Skips(d) => {
+                let (m, e) = self.next_mapping(d)?;
+                Some((m, e))
+            }
+            Turn::Ends => None,
         }
     }
-    i
+
+    // A cursor before the first mapping.
+    pub(crate) fn start(self, head: usize) -> RemapCursor
+        requires { Whole self.next.now self.words.now head }
+        ensures ready { Stands self.entry result }
+        ensures result_value { coming self.entry result ≡ streamed self.entry head }
+        ensures result_bound { to_go self.entry.next.now self.entry.words.now self.entry.segments.now self.entry.n result
+            ≤ 2 * (length (stored_at self.entry.next.now self.entry.words.now head) + self.entry.n) + 1 }
+    {
+        RemapCursor {
+            region: head,
+            at: HostAddr(0),
+            covered: HostAddr(0),
+            segment: 0,
+            ongoing: 1024,
+            end: HostAddr(0),
+        }
+    }
+
+    // The number of mappings from a cursor on.
+    pub(crate) fn count(self, from: RemapCursor) -> usize
+        requires { Stands self from }
+        ensures { result ≡ length (coming self.entry from) }
+    {
+        let mut c = from;
+        let mut k: usize = 0;
+        while let Some((_, d)) = self.next_mapping(c) {
+            c = d;
+            k += 1;
+        }
+        k
+    }
+
+    // The cursor k mappings on.
+    pub(crate) fn advance(self, from: RemapCursor, k: usize) -> RemapCursor
+        requires { Stands self from }
+        ensures ready_2 { Stands self.entry result }
+        ensures result_value { coming self.entry result ≡ drop k (coming self.entry from) }
+    {
+        let mut c = from;
+        for _i in 0..k {
+            let Some((_, d)) = self.next_mapping(c) else {
+                return c;
+            };
+            c = d;
+        }
+        c
+    }
+
+    // The mappings from a cursor on, as many as there are and as fit.
+    // A segment that goes on skips nothing, so its mappings are taken here, without the call that skips.
+    fn fill(self, from: RemapCursor, out: &mut [u64]) -> usize
+        requires { Stands self from }
+        ensures { Filled 5 (map mapping_group (coming self.entry from)) 0 out.old out.new result }
+    {
+        let room = out.len() / 5;
+        let mut c = from;
+        for i in 0..room {
+            if self.goes_on(c) {
+                let (m, d) = self.go_on(c);
+                put_mapping(out, i, m);
+                c = d;
+            } else {
+                let Some((m, d)) = self.next_mapping(c) else {
+                    return i;
+                };
+                put_mapping(out, i, m);
+                c = d;
+            }
+        }
+        room
+    }
 }
 
 // A page from mapping k on: as many groups of five numbers as the slice and the stream allow, and how many.
@@ -415,9 +322,15 @@ pub(crate) fn page(
     ensures { Filled 5 (map mapping_group (stream (stored_at next.now words.now head) (segments_from segments.now 0 n))) k
         out.old out.new result }
 {
-    let c = start(next, words, segments, n, head);
-    let d = advance(c, next, words, segments, n, k);
-    fill(d, next, words, segments, n, out)
+    let lists = Lists {
+        next,
+        words,
+        segments,
+        n,
+    };
+    let c = lists.start(head);
+    let d = lists.advance(c, k);
+    lists.fill(d, out)
 }
 
 // The slot k links on, 1,024 for none.
@@ -427,13 +340,11 @@ fn follow(next: &[usize], head: usize, k: usize) -> usize
     ensures result_value { slots next.now result ≡ drop k (slots next.now head) }
 {
     let mut h = head;
-    let mut i: usize = 0;
-    while i < k {
+    for _i in 0..k {
         if h >= 1024 {
             return h;
         }
         h = next[h];
-        i += 1;
     }
     h
 }
@@ -462,17 +373,15 @@ fn fill_permissions(
 {
     let room = out.len() / 3;
     let mut c = from;
-    let mut i: usize = 0;
-    while i < room {
+    for i in 0..room {
         let n = c.next(next, words);
-        let NextPermission::At(p, d) = n else {
+        let Some((p, d)) = n else {
             return i;
         };
         put_permission(out, i, p);
         c = d;
-        i += 1;
     }
-    i
+    room
 }
 
 // A page from permission k on: as many groups of three numbers as the slice and the records allow, and how many.
@@ -502,17 +411,15 @@ fn fill_regions(next: &[usize], words: &[u64], from: usize, out: &mut [u64]) -> 
 {
     let room = out.len() / RECORD_LEN;
     let mut h = from;
-    let mut i: usize = 0;
-    while i < room {
+    for i in 0..room {
         if h >= 1024 {
             return i;
         }
         let r = load(words, h);
         save(out, i, r);
         h = next[h];
-        i += 1;
     }
-    i
+    room
 }
 
 // A page from region k on: as many groups of RECORD_LEN numbers as the slice and the list allow, and how many.
@@ -538,16 +445,10 @@ pub(crate) fn segments(list: &[u64], n: usize, k: usize, out: &mut [u64]) -> usi
     ensures { Filled 4 (map segment_group (segments_from list.now 0 n)) k out.old out.new result }
 {
     let room = out.len() / 4;
-    let mut from = k;
-    let mut i: usize = 0;
-    while i < room {
-        if from >= n {
-            return i;
-        }
-        let s = load_segment(list, from);
+    let many = room.min(n.saturating_sub(k));
+    for i in 0..many {
+        let s = load_segment(list, k + i);
         put_segment(out, i, s);
-        from += 1;
-        i += 1;
     }
-    i
+    many
 }

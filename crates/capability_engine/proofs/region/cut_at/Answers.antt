@@ -20,20 +20,20 @@ returns-then-x-ge1024 c = cut-end _ c.loop-at.invariant c.if-x-ge1024.true
 pub load-r-requires : goal.load-r-requires
 load-r-requires c = (c.if-x-ge1024.false, c.loop-at.invariant.pass.ready.words)
 
-pub split_region_at-made-requires : goal.split_region_at-made-requires
-split_region_at-made-requires c = record { slot_bound = (c.if-x-ge1024.false, cut-asks _ c.loop-at.invariant _ _ _ refl c.if-x-ge1024.false c.load-r.ensures c.has_inside.ensures c.if-has_inside.true c.requires.room); words_len = c.loop-at.invariant.pass.ready.words }
+pub split_region_at-requires : goal.split_region_at-requires
+split_region_at-requires c = record { slot_bound = (c.if-x-ge1024.false, cut-asks _ c.loop-at.invariant _ _ _ refl c.if-x-ge1024.false c.load-r.ensures c.has_inside.ensures c.if-has_inside.true c.requires.room); words_len = c.loop-at.invariant.pass.ready.words }
 
 pub shape_of-next-then-has_inside : goal.shape_of-next-then-has_inside
-shape_of-next-then-has_inside c = omega (arith, (cut-it _ c.loop-at.invariant _ _ _ refl c.if-x-ge1024.false c.load-r.ensures c.has_inside.ensures _ _ _ _ c.if-has_inside.true c.split_region_at-made.ensures).ready.own.size, c.requires.ready.own.size)
+shape_of-next-then-has_inside c = omega (arith, (cut-it _ c.loop-at.invariant _ _ _ refl c.if-x-ge1024.false c.load-r.ensures c.has_inside.ensures _ _ _ _ c.if-has_inside.true c.split_region_at.ensures).ready.own.size, c.requires.ready.own.size)
 
 pub shape_of-words-then-has_inside : goal.shape_of-words-then-has_inside
-shape_of-words-then-has_inside c = omega (arith, (cut-it _ c.loop-at.invariant _ _ _ refl c.if-x-ge1024.false c.load-r.ensures c.has_inside.ensures _ _ _ _ c.if-has_inside.true c.split_region_at-made.ensures).ready.words, c.requires.ready.words)
+shape_of-words-then-has_inside c = omega (arith, (cut-it _ c.loop-at.invariant _ _ _ refl c.if-x-ge1024.false c.load-r.ensures c.has_inside.ensures _ _ _ _ c.if-has_inside.true c.split_region_at.ensures).ready.words, c.requires.ready.words)
 
 pub shape_of-links-then-has_inside : goal.shape_of-links-then-has_inside
-shape_of-links-then-has_inside c = omega (arith, (cut-it _ c.loop-at.invariant _ _ _ refl c.if-x-ge1024.false c.load-r.ensures c.has_inside.ensures _ _ _ _ c.if-has_inside.true c.split_region_at-made.ensures).ready.heap.grown.list.size, c.requires.ready.heap.grown.list.size)
+shape_of-links-then-has_inside c = omega (arith, (cut-it _ c.loop-at.invariant _ _ _ refl c.if-x-ge1024.false c.load-r.ensures c.has_inside.ensures _ _ _ _ c.if-has_inside.true c.split_region_at.ensures).ready.heap.grown.list.size, c.requires.ready.heap.grown.list.size)
 
 pub returns-then-has_inside : goal.returns-then-has_inside
-returns-then-has_inside c = cut-it _ c.loop-at.invariant _ _ _ refl c.if-x-ge1024.false c.load-r.ensures c.has_inside.ensures _ _ _ _ c.if-has_inside.true c.split_region_at-made.ensures
+returns-then-has_inside c = cut-it _ c.loop-at.invariant _ _ _ refl c.if-x-ge1024.false c.load-r.ensures c.has_inside.ensures _ _ _ _ c.if-has_inside.true c.split_region_at.ensures
 
 pub loop-at-smaller : goal.loop-at-smaller
 loop-at-smaller c = (cut_on _ c.loop-at.invariant _ _ _ refl c.if-x-ge1024.false c.load-r.ensures c.has_inside.ensures c.if-has_inside.false).1

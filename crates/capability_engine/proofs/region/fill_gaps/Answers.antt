@@ -44,11 +44,11 @@ shape_of-links-then-end-from c = omega (arith, (over-put _ _ c.loop-next.invaria
 pub returns-then-end-from : goal.returns-then-end-from
 returns-then-end-from c = over-put _ _ c.loop-next.invariant _ _ refl c.if-x-ge1024.false c.load-r.ensures c.if-to-s.false c.if-end-from.true _ _ _ c.put_gap-then-end-from.ensures
 
-pub put_gap-left-requires : goal.put_gap-left-requires
-put_gap-left-requires c = record { can_insert = λ l. in-asks _ _ c.loop-next.invariant _ _ refl c.if-x-ge1024.false c.load-r.ensures c.if-to-s.false c.if-end-from.false c.requires.room l; words_len = c.loop-next.invariant.pass.ready.words }
+pub put_gap-requires-else-end-from : goal.put_gap-requires-else-end-from
+put_gap-requires-else-end-from c = record { can_insert = λ l. in-asks _ _ c.loop-next.invariant _ _ refl c.if-x-ge1024.false c.load-r.ensures c.if-to-s.false c.if-end-from.false c.requires.room l; words_len = c.loop-next.invariant.pass.ready.words }
 
 pub loop-next-smaller : goal.loop-next-smaller
-loop-next-smaller c = (in-put _ _ c.loop-next.invariant _ _ refl c.if-x-ge1024.false c.load-r.ensures c.if-to-s.false c.if-end-from.false _ _ _ c.put_gap-left.ensures).1
+loop-next-smaller c = (in-put _ _ c.loop-next.invariant _ _ refl c.if-x-ge1024.false c.load-r.ensures c.if-to-s.false c.if-end-from.false _ _ _ c.put_gap-else-end-from.ensures).1
 
 pub loop-next-preserved : goal.loop-next-preserved
-loop-next-preserved c = (in-put _ _ c.loop-next.invariant _ _ refl c.if-x-ge1024.false c.load-r.ensures c.if-to-s.false c.if-end-from.false _ _ _ c.put_gap-left.ensures).0
+loop-next-preserved c = (in-put _ _ c.loop-next.invariant _ _ refl c.if-x-ge1024.false c.load-r.ensures c.if-to-s.false c.if-end-from.false _ _ _ c.put_gap-else-end-from.ensures).0

@@ -20,14 +20,14 @@ returns-then-x-ge1024 c = lower-end _ _ _ c.loop-start.invariant c.if-x-ge1024.t
 pub load-r-requires : goal.load-r-requires
 load-r-requires c = (c.if-x-ge1024.false, c.loop-start.invariant.pass.ready.words)
 
-pub remove_after-left-requires : goal.remove_after-left-requires
-remove_after-left-requires c = lower-asks _ _ _ c.loop-start.invariant _ _ _ refl c.if-x-ge1024.false c.load-r.ensures c.decrease_in-l.ensures
+pub remove_after-requires : goal.remove_after-requires
+remove_after-requires c = lower-asks _ _ _ c.loop-start.invariant _ _ _ refl c.if-x-ge1024.false c.load-r.ensures c.decrease_in-l.ensures
 
 pub loop-start-smaller-then-l-eq0 : goal.loop-start-smaller-then-l-eq0
-loop-start-smaller-then-l-eq0 c = (lower-drop _ _ _ c.loop-start.invariant _ _ _ refl c.if-x-ge1024.false c.load-r.ensures c.decrease_in-l.ensures _ _ c.if-l-eq0.true c.remove_after-left.ensures).1
+loop-start-smaller-then-l-eq0 c = (lower-drop _ _ _ c.loop-start.invariant _ _ _ refl c.if-x-ge1024.false c.load-r.ensures c.decrease_in-l.ensures _ _ c.if-l-eq0.true c.remove_after.ensures).1
 
 pub loop-start-preserved-then-l-eq0 : goal.loop-start-preserved-then-l-eq0
-loop-start-preserved-then-l-eq0 c = (lower-drop _ _ _ c.loop-start.invariant _ _ _ refl c.if-x-ge1024.false c.load-r.ensures c.decrease_in-l.ensures _ _ c.if-l-eq0.true c.remove_after-left.ensures).0
+loop-start-preserved-then-l-eq0 c = (lower-drop _ _ _ c.loop-start.invariant _ _ _ refl c.if-x-ge1024.false c.load-r.ensures c.decrease_in-l.ensures _ _ c.if-l-eq0.true c.remove_after.ensures).0
 
 pub save_in-requires : goal.save_in-requires
 save_in-requires c = record { record_len_in_bounds = omega (arith, c.if-x-ge1024.false, c.loop-start.invariant.pass.ready.words); s_value = one-stays _ _ _ _ _ _ c.load-r.ensures c.decrease_in-l.ensures }

@@ -7,5 +7,5 @@ returns-then-r-from c = from-skip c.args.end c.args.from c.args.r c.if-r-from.tr
 pub returns-then-end-r : goal.returns-then-end-r
 returns-then-end-r c = from-stop c.args.end c.args.from c.args.r c.if-r-from.false c.if-end-r.true
 
-pub returns : goal.returns
-returns c = from_on c.args.end c.args.from c.args.r c.if-r-from.false c.if-end-r.false
+pub returns-else-end-r : goal.returns-else-end-r
+returns-else-end-r c = from_on c.args.end c.args.from c.args.r c.if-r-from.false c.if-end-r.false

@@ -14,25 +14,25 @@ skip_through-z-requires c = place-walk _ _ _ c.args.start c.args.end _ c.require
 pub narrow-off-requires : goal.narrow-off-requires
 narrow-off-requires c = (place-low _ _ _ c.args.start c.args.end _ c.requires.ready c.requires.place, place-z _ _ _ c.args.start c.args.end _ c.requires.ready c.requires.place _ c.skip_through-z.ensures, c.requires.ready.own.size)
 
-pub apply_remove-left-requires : goal.apply_remove-left-requires
-apply_remove-left-requires c =
+pub apply_remove-requires : goal.apply_remove-requires
+apply_remove-requires c =
     let v = remove-narrow _ _ _ _ _ _ _ c.requires _ c.skip_through-z.ensures _ c.narrow-off.ensures.link in
     record { ready = v.0; can_apply_remove = v.1 }
 
 pub widen-requires : goal.widen-requires
-widen-requires c = widen-asks _ _ _ c.args.start c.args.end _ c.requires.ready c.requires.place _ c.skip_through-z.ensures _ _ _ _ _ _ c.narrow-off.ensures c.apply_remove-left.ensures
+widen-requires c = widen-asks _ _ _ c.args.start c.args.end _ c.requires.ready c.requires.place _ c.skip_through-z.ensures _ _ _ _ _ _ c.narrow-off.ensures c.apply_remove.ensures
 
 pub shape_of-next : goal.shape_of-next
-shape_of-next c = omega (arith, (remove-widen _ _ _ _ _ _ _ c.requires _ c.skip_through-z.ensures _ _ _ _ _ _ c.narrow-off.ensures c.apply_remove-left.ensures c.widen.ensures).ready.own.size, c.requires.ready.own.size)
+shape_of-next c = omega (arith, (remove-widen _ _ _ _ _ _ _ c.requires _ c.skip_through-z.ensures _ _ _ _ _ _ c.narrow-off.ensures c.apply_remove.ensures c.widen.ensures).ready.own.size, c.requires.ready.own.size)
 
 pub shape_of-words : goal.shape_of-words
-shape_of-words c = omega (arith, c.apply_remove-left.ensures.ready.words, c.requires.ready.words)
+shape_of-words c = omega (arith, c.apply_remove.ensures.ready.words, c.requires.ready.words)
 
 pub shape_of-links : goal.shape_of-links
-shape_of-links c = omega (arith, c.apply_remove-left.ensures.ready.heap.grown.list.size, c.requires.ready.heap.grown.list.size)
+shape_of-links c = omega (arith, c.apply_remove.ensures.ready.heap.grown.list.size, c.requires.ready.heap.grown.list.size)
 
 pub shape_of-gens : goal.shape_of-gens
-shape_of-gens c = omega (arith, c.apply_remove-left.ensures.ready.heap.grown.size, c.requires.ready.heap.grown.size)
+shape_of-gens c = omega (arith, c.apply_remove.ensures.ready.heap.grown.size, c.requires.ready.heap.grown.size)
 
 pub returns : goal.returns
-returns c = remove-widen _ _ _ _ _ _ _ c.requires _ c.skip_through-z.ensures _ _ _ _ _ _ c.narrow-off.ensures c.apply_remove-left.ensures c.widen.ensures
+returns c = remove-widen _ _ _ _ _ _ _ c.requires _ c.skip_through-z.ensures _ _ _ _ _ _ c.narrow-off.ensures c.apply_remove.ensures c.widen.ensures

@@ -14,8 +14,8 @@ loop-cur-init c = add-walk c.args.start c.args.end c.args.rights _ _ _ _ c.args.
 pub load-r-requires : goal.load-r-requires
 load-r-requires c = (c.loop-cur-test.true, c.requires.askable.list.listed.words)
 
-pub returns-then-and : goal.returns-then-and
-returns-then-and c = add-stop c.args.start c.args.end c.args.rights _ _ _ _ c.add_step-ask.result _ _ c.loop-cur.invariant.0 c.loop-cur.invariant.1 c.loop-cur-test.true c.load-r.ensures c.add_step-ask.ensures _ _ c.and.ensures c.lies_above.ensures c.if-and.true
+pub returns-then-lies_above : goal.returns-then-lies_above
+returns-then-lies_above c = add-stop c.args.start c.args.end c.args.rights _ _ _ _ c.add_step-ask.result _ _ c.loop-cur.invariant.0 c.loop-cur.invariant.1 c.loop-cur-test.true c.load-r.ensures c.add_step-ask.ensures c.if-ask-end.true (c.lies_above.ensures c.if-lies_above.true)
 
 pub offset_bounds-next-cur : goal.offset_bounds-next-cur
 offset_bounds-next-cur c = omega (arith, c.loop-cur-test.true)

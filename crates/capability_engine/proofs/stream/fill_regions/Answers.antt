@@ -1,10 +1,11 @@
 use Rattle.definitions.proofs.PageLaws.{record-long}
-use Rattle.definitions.proofs.Fills.{walk_start, walk_kept, walk-fits, walk-short, walk-full, walk_more}
-use Rattle.capability_engine.proofs.PoolLinks.{listed-step, stored-step, stored-none, stored-few}
+use Rattle.definitions.proofs.Fills.{walk_start, walk_kept, walk-fits, walk-short, walk_more}
+use Rattle.capability_engine.proofs.PoolLinks.{listed-step, stored-step, stored-none}
 use Rattle.capability_engine.specs.PoolWords.{put_region}
 use Rattle.definitions.specs.Pages.{region_group, record_len}
 use mathlib.Core.Path.{ap, ◌∙◌}
 use native.Mathlib.Omega.{arith}
+use Rattle.capability_engine.proofs.StreamWalks.{walk-all}
 use Rattle.capability_engine.proofs.stream.fill_regions.Goals as goal
 
 pub loop-i-init : goal.loop-i-init
@@ -28,9 +29,6 @@ offset_bounds-next-h c = omega (arith, c.if-h-ge1024.false)
 pub bounds-next-h : goal.bounds-next-h
 bounds-next-h c = omega (arith, c.if-h-ge1024.false, c.loop-i.invariant.0.size)
 
-pub overflow_add-i : goal.overflow_add-i
-overflow_add-i c = omega (arith, c.loop-i.invariant.1.some, stored-few c.args.words.now c.requires.listed)
-
 pub loop-i-preserved : goal.loop-i-preserved
 unfolding put_region
 loop-i-preserved c = (listed-step _ _ c.loop-i.invariant.0 c.if-h-ge1024.false, walk_more record_len region_group record-long c.loop-i.invariant.1 (stored-step _ c.loop-i.invariant.0 c.if-h-ge1024.false) c.loop-i-test.true (c.save.ensures ∙ ap (put_region c.loop-i.out c.loop-i.i) c.load-r.ensures))
@@ -39,4 +37,4 @@ pub shape_of-out : goal.shape_of-out
 shape_of-out c = walk_kept record_len region_group record-long c.loop-i.invariant.1
 
 pub returns : goal.returns
-returns c = walk-full record_len region_group record-long c.loop-i.invariant.1 (omega arith)
+returns c = walk-all record_len region_group record-long c.loop-i.invariant.1 (omega arith)

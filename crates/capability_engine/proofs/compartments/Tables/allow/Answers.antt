@@ -1,18 +1,14 @@
-use native.Mathlib.Omega.{arith}
 use Rattle.definitions.specs.Reckoning.{compartment_of}
 use Rattle.definitions.specs.declared.call.Call.TheVariants.{Allow}
-use Rattle.capability_engine.proofs.CompartmentLaws.{eight}
-use Rattle.capability_engine.proofs.CompartmentFacts.{pool-allowed}
-use Rattle.capability_engine.proofs.CompartmentReads.{past-answers}
-use Rattle.capability_engine.proofs.CompartmentCalls.{allows-answers}
+use Rattle.capability_engine.proofs.CompartmentReads.{handed, past-answers}
 use Rattle.capability_engine.proofs.compartments.Tables.allow.Goals as goal
 
-pub returns-then-compartment-ge8 : goal.returns-then-compartment-ge8
+pub returns-in_err-k : goal.returns-in_err-k
 unfolding compartment_of
-returns-then-compartment-ge8 c = λ calls g. past-answers _ _ _ _ _ calls g (Allow c.args.compartment c.args.allowance) c.if-compartment-ge8.true
+returns-in_err-k c = λ calls g. rw (handed c.from_residual.result _ c.from_residual.ensures.1 c.in_err-k.ensures.none.0) (past-answers _ _ _ _ _ calls g (Allow c.args.compartment c.args.allowance) c.in_err-k.ensures.none.1)
 
-pub on_allow-r-requires : goal.on_allow-r-requires
-on_allow-r-requires c = (omega (arith, c.if-compartment-ge8.false), eight _ _ _ _ _ _ c.requires.grown.pooled, pool-allowed _ _ _ _ _ _ c.requires.grown)
+pub allow_of-requires : goal.allow_of-requires
+allow_of-requires c = record { grown = c.requires; k_lt = c.in_ok-k.ensures.one.1 }
 
 pub returns : goal.returns
-returns c = λ calls g. allows-answers _ _ _ _ _ calls g _ _ (omega (arith, c.if-compartment-ge8.false)) c.on_allow-r.result c.on_allow-r.ensures
+returns c = rw c.in_ok-k.ensures.one.0 c.allow_of.ensures

@@ -1,15 +1,9 @@
-use native.Mathlib.Omega.{arith}
-use mathlib.Core.Path.{sym}
-use Rattle.capability_engine.proofs.CompartmentLaws.{grown-allotted}
-use Rattle.capability_engine.proofs.CompartmentReads.{past-answers}
-use Rattle.capability_engine.proofs.CompartmentCalls.{regions-answers}
+use mathlib.Core.Path.{sym, ◌∙◌}
+use Rattle.capability_engine.proofs.CompartmentReads.{handed, past-answers}
 use Rattle.capability_engine.proofs.compartments.Tables.change_regions.Goals as goal
 
-pub returns-then-compartment-ge8 : goal.returns-then-compartment-ge8
-returns-then-compartment-ge8 c = λ calls g. past-answers _ _ _ _ _ calls g _ (rw (sym c.compartment-compartment.ensures) c.if-compartment-ge8.true)
+pub returns-in_err-k : goal.returns-in_err-k
+returns-in_err-k c = λ calls g. rw (handed c.from_residual.result _ c.from_residual.ensures.1 c.in_err-k.ensures.none.0) (past-answers _ _ _ _ _ calls g _ (rw (sym c.compartment.ensures) c.in_err-k.ensures.none.1))
 
-pub on_regions-r-requires : goal.on_regions-r-requires
-on_regions-r-requires c = grown-allotted _ _ _ _ _ _ c.requires.grown.grown.pooled _ (omega (arith, c.if-compartment-ge8.false)) _
-
-pub returns : goal.returns
-returns c = λ calls g. regions-answers _ _ _ _ _ calls g _ _ c.compartment-compartment.ensures (omega (arith, c.if-compartment-ge8.false)) _ _ _ _ _ c.on_regions-r.result c.requires.call_value c.on_regions-r.ensures
+pub regions_of-requires : goal.regions_of-requires
+regions_of-requires c = record { grown = c.requires.grown; named = record { one = sym c.in_ok-k.ensures.one.0 ∙ c.compartment.ensures; below = c.in_ok-k.ensures.one.1; is = c.requires.call_value } }

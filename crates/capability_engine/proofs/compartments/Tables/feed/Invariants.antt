@@ -7,8 +7,8 @@ use Rattle.capability_engine.proofs.compartments.Tables.feed.Given as goal
 
 abbrev pub invariant-loop-k : goal.invariant-loop-k
 invariant-loop-k l =
-    (calls : List Call) → Grown l.initial.words l.initial.next l.initial.links l.initial.gens (record { arena = l.initial.arena; trackers = l.initial.trackers; remappers = l.initial.remappers }) calls
-    → Going calls (script_at l.initial.line l.initial.p) l.input l.initial.out l.words l.next l.links l.gens (record { arena = l.arena; trackers = l.trackers; remappers = l.remappers }) l.line l.out l.p
+    (calls : List Call) → Grown l.initial.words l.initial.next l.initial.links l.initial.gens l.initial.self calls
+    → Going calls (script_at l.initial.script.line l.initial.p) l.input l.initial.out l.words l.next l.links l.gens l.self l.script.line l.out l.p
 
 abbrev pub decreases-loop-k : goal.decreases-loop-k
 decreases-loop-k l =

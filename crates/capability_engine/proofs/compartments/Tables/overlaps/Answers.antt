@@ -1,15 +1,14 @@
-use native.Mathlib.Omega.{arith}
 use Rattle.definitions.specs.Reckoning.{compartment_of}
 use Rattle.capability_engine.proofs.CompartmentFacts.{held}
-use Rattle.capability_engine.proofs.CompartmentReads.{past, overlapped}
+use Rattle.capability_engine.proofs.CompartmentReads.{handed, past, overlapped}
 use Rattle.capability_engine.proofs.compartments.Tables.overlaps.Goals as goal
 
-pub returns-then-compartment-ge8 : goal.returns-then-compartment-ge8
+pub returns-in_err-k : goal.returns-in_err-k
 unfolding compartment_of
-returns-then-compartment-ge8 c = λ calls g. past _ _ _ _ _ calls g _ c.if-compartment-ge8.true
+returns-in_err-k c = λ calls g. rw (handed c.from_residual.result _ c.from_residual.ensures.1 c.in_err-k.ensures.none.0) (past _ _ _ _ _ calls g _ c.in_err-k.ensures.none.1)
 
 pub overlaps-requires : goal.overlaps-requires
-overlaps-requires c = (_, held _ _ _ _ _ _ c.requires.grown _ (omega (arith, c.if-compartment-ge8.false)) _)
+overlaps-requires c = (_, held _ _ _ _ _ _ c.requires.grown _ c.in_ok-k.ensures.one.1 _)
 
 pub returns : goal.returns
-returns c = λ calls g. overlapped _ _ _ _ _ calls g _ (omega (arith, c.if-compartment-ge8.false)) c.args.start _ _ (c.overlaps.ensures _ (held _ _ _ _ _ calls g _ (omega (arith, c.if-compartment-ge8.false)) _))
+returns c = rw c.in_ok-k.ensures.one.0 (λ calls g. overlapped _ _ _ _ _ calls g _ c.in_ok-k.ensures.one.1 c.args.start _ _ (c.overlaps.ensures _ (held _ _ _ _ _ calls g _ c.in_ok-k.ensures.one.1 _)))

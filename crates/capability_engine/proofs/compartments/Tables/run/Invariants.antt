@@ -1,4 +1,3 @@
-use Prim.Native.Nat.{◌-◌, ◌≤◌}
 use mathlib.Core.Path.{◌≡◌}
 use mathlib.Core.List.{List}
 use lib.ListN.{length}
@@ -7,11 +6,10 @@ use Rattle.capability_engine.specs.CompartmentGrown.{Grown}
 use Rattle.capability_engine.proofs.ScriptRuns.{Running}
 use Rattle.capability_engine.proofs.compartments.Tables.run.Given as goal
 
-abbrev pub invariant-loop-used : goal.invariant-loop-used
-invariant-loop-used l =
-    (l.used ≤ length l.input) × (length l.out ≡ 65536)
-    × ((calls : List Call) → Grown l.initial.words l.initial.next l.initial.links l.initial.gens l.initial.tables calls → Running calls l.initial.left l.input l.words l.next l.links l.gens l.tables l.left l.used)
+abbrev pub invariant-loop-rest : goal.invariant-loop-rest
+invariant-loop-rest l =
+    (length l.out ≡ 65536)
+    × ((calls : List Call) → Grown l.initial.words l.initial.next l.initial.links l.initial.gens l.initial.self calls → Running calls l.initial.script l.input l.words l.next l.links l.gens l.self l.script l.rest)
 
-abbrev pub decreases-loop-used : goal.decreases-loop-used
-decreases-loop-used l =
-    length l.input - l.used
+abbrev pub decreases-loop-rest : goal.decreases-loop-rest
+decreases-loop-rest l = length l.rest
