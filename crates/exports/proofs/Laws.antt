@@ -18,19 +18,15 @@ use Rattle.definitions.specs.Script.{Line, call, malformed, line_of, lines_of, h
 use Rattle.definitions.specs.declared.remapper.Mapping.{Mapping}
 use Rattle.definitions.specs.declared.answer.Refusal.{Refusal}
 use Rattle.definitions.specs.declared.answer.Refusal.TheVariants.{NoCompartment, InvalidMemOps, InvalidRange, CountFull, OutOfMemory, InvalidRegion, EndedBefore, CountEmpty, EmptySegment, Overflow, AlreadyAliased, NoSlot, Repeated, OthersTouched, Malformed, PoolExceeded, StillInUse, BundleTooLong, NoScript}
-use Rattle.definitions.specs.declared.answer.Answer.{Answer}
-use Rattle.definitions.specs.declared.answer.Answer.TheVariants.{Accepted, Refused}
+use Rattle.definitions.specs.Answers.{Answer}
+use Rattle.std.specs.Prelude.{Ok, Err, Option, Some, None}
 use Rattle.definitions.specs.declared.call.Call.{Call}
 use Rattle.definitions.specs.declared.call.Call.TheVariants.{Add, Remove, Refcount, Overlaps, Map, Unmap, UnmapGpa, Permissions, Remap, Mappings, Allow}
 use Rattle.columns.specs.Columns as columns
-use Rattle.columns.specs.declared.Put.{Put}
-use Rattle.columns.specs.declared.Put.TheVariants.{At, NoRoom}
 use Rattle.lines.proofs.Written.{length-heading, length-answer, length-mapping}
 use Rattle.lines.proofs.Putting.{put-at, put-none, none-whole}
 use Rattle.capability_engine.specs.declared.compartments.Tables.{Tables}
-use Rattle.capability_engine.specs.declared.compartments.Created.{Created}
 use Rattle.capability_engine.specs.declared.script.Script.{Script}
-use Rattle.capability_engine.specs.declared.script.Fed.{Fed}
 use Rattle.capability_engine.specs.CompartmentGrown as engine
 use Rattle.capability_engine.specs.ScriptFeed.{due, comes, begun, held, Feeds, Replays}
 use Rattle.capability_engine.proofs.ScriptWhole as whole
@@ -62,15 +58,15 @@ refusal-from NoScript = omega arith
 pub from_one : (r : Refusal) (n : ℕ) → n ≡ refusal_number r → 1 ≤ n
 from_one r n e = omega (arith, refusal-from r, e)
 
-pub coded-refused : (a : Answer) (r : Refusal) (n : ℕ) → a ≡ Refused r → n ≡ refusal_number r → 18446744073709551615 - (n - 1) ≡ coded a
+pub coded-refused : (a : Answer) (r : Refusal) (n : ℕ) → a ≡ Err r → n ≡ refusal_number r → 18446744073709551615 - (n - 1) ≡ coded a
 coded-refused a r n e m = rw e (omega (arith, refusal-from r, m))
 
 -- ---- tables, and what is read from them
 
 -- new tables are grown by no call
-pub fresh : (words next links gens links' gens' : List ℕ) (r : Created) → engine.Creates words next links gens links' gens' r
-    → engine.Sized words next links gens → engine.Grown words next links' gens' r.tables []
-fresh words next links gens links' gens' r c s = c.made (c.sized s)
+pub fresh : (words next links gens links' gens' : List ℕ) (r : Option Tables) → engine.Creates words next links gens links' gens' r
+    → (t : Tables) → r ≡ Some t → engine.Grown words next links' gens' t []
+fresh words next links gens links' gens' r c t e = (c.made t e).grown
 
 pub leaves : (script words next links gens : List ℕ) (t : Tables) → Replays [] script words next links gens t → Leaves (left_by script) words next links gens t
 unfolding left_by after after_from
@@ -84,7 +80,7 @@ module _ (s : State) (calls : List Call) (e : after calls ≡ s) (a : Answer) (r
     pub list-page : (width : ℕ) (groups : Compartment → List (List ℕ)) → engine.ReadsList width groups calls k from out out' a
         → ReadsPage width groups s k from out out' r
     list-page width groups q = record {
-      answered = c ∙ ap coded (q.answered ∙ ap (λ (t : State). ask ((k <? 8, NoCompartment) ∷ []) (Accepted (length (page width (groups (compartment t k)) from (length out))))) e);
+      answered = c ∙ ap coded (q.answered ∙ ap (λ (t : State). ask ((k <? 8, NoCompartment) ∷ []) (Ok (length (page width (groups (compartment t k)) from (length out))))) e);
       slice = q.slice ∙ ap (λ (t : State). engine.page_left width (groups (compartment t k)) k from out) e;
     }
 
@@ -144,7 +140,7 @@ each-mappings s (Allow k n) = Prim.tt
 
 each-printed : (s : State) (l : Line) → Each (printed s l)
 each-printed s (call c) = (omega (arith, length-answer (answer s c)), each-mappings s c)
-each-printed s malformed = (omega (arith, length-answer (Refused Malformed)), Prim.tt)
+each-printed s malformed = (omega (arith, length-answer (Err Malformed)), Prim.tt)
 
 each-output : (s : State) (ls : List (List ℕ)) → Each (output_from s ls)
 unfolding output_from
@@ -162,9 +158,9 @@ counted script out out' n p =
 prints : (script out out' : List ℕ) (n : ℕ) → whole.Wrote script out out' n → Prints script out out' n
 prints script out out' n w = record { slice = w.slice; many = w.many }
 
-module _ (script out out' : List ℕ) (put : Put) (w : columns.Wrote 0 heading out put out') where
+module _ (script out out' : List ℕ) (put : Option ℕ) (w : columns.Wrote 0 heading out put out') where
   -- the heading does not fit
-  pub prints-none : put ≡ NoRoom → Prints script out out' 0
+  pub prints-none : put ≡ None → Prints script out out' 0
   unfolding output_of
   prints-none e =
       let v = put-none 0 heading out out' put w e in
@@ -172,8 +168,8 @@ module _ (script out out' : List ℕ) (put : Put) (w : columns.Wrote 0 heading o
       record { slice = v.1 ∙ ap (λ (x : List (List ℕ)). sets out 0 (each (λ l. l) x)) (sym none); many = ap length (sym none) }
 
   -- it does, and the script is fed
-  module _ (at : ℕ) (e : put ≡ At at) (c : Script) (b : c ≡ begun) (words next links gens out1 : List ℕ) (r : Fed)
-      (f : Feeds [] c script out' at words next links gens out1 r) where
+  module _ (at : ℕ) (e : put ≡ Some at) (c : Script) (b : c ≡ begun) (words next links gens out1 : List ℕ) (t : Tables) (r : Script)
+      (f : Feeds [] c script out' at words next links gens out1 t r) where
     room : 25 ≤ length out
     room = omega (arith, (put-at 0 heading out out' put w at e).0, length-heading)
 
@@ -183,7 +179,7 @@ module _ (script out out' : List ℕ) (put : Put) (w : columns.Wrote 0 heading o
     headed : out' ≡ sets out 0 heading
     headed = (put-at 0 heading out out' put w at e).2
 
-    first : Feeds [] begun script (sets out 0 heading) 25 words next links gens out1 r
+    first : Feeds [] begun script (sets out 0 heading) 25 words next links gens out1 t r
     first = record {
       later = f.later;
       grown = f.grown;
@@ -194,29 +190,30 @@ module _ (script out out' : List ℕ) (put : Put) (w : columns.Wrote 0 heading o
       end = f.end ∙ ap (λ (n : ℕ). n + length (each (λ l. l) f.lines)) from;
       many = f.many;
       fits = λ l. omega (arith, ap length headed, f.fits (omega (arith, ap length headed, from)));
+      room = f.room ∙ ap (λ (s : Script). length s.line) b;
       taken = f.taken;
       whole = f.whole;
-      stuck = λ g more. ap (λ (o : List ℕ). whole_lines (length o - r.script.progress.at) (due (after f.later) r.script (drop r.script.progress.used script ++ more))) (sym headed) ∙ f.stuck g more;
+      stuck = λ g more. ap (λ (o : List ℕ). whole_lines (length o - r.progress.at) (due (after f.later) r (drop r.progress.used script ++ more))) (sym headed) ∙ f.stuck g more;
       ahead = λ k l. f.ahead (omega (arith, ap (λ (s : Script). s.progress.compartment) b)) (omega (arith, ap length headed, from));
     }
 
-    pub prints-full : r.script.progress.full ≡ true → Prints script out out1 (1 + r.script.progress.lines)
-    prints-full g = prints script out out1 (1 + r.script.progress.lines) (whole.wrote-full script out words next links gens out1 r room first g)
+    pub prints-full : r.progress.full ≡ true → Prints script out out1 (1 + r.progress.lines)
+    prints-full g = prints script out out1 (1 + r.progress.lines) (whole.wrote-full script out words next links gens out1 t r room first g)
 
-    module _ (g : r.script.progress.full ≡ false) where
-      pub prints-all : r.script.progress.len ≡ 0 → Prints script out out1 (1 + r.script.progress.lines)
+    module _ (g : r.progress.full ≡ false) where
+      pub prints-all : r.progress.len ≡ 0 → Prints script out out1 (1 + r.progress.lines)
       prints-all z =
-          let n : length (held r.script) ≡ 0 = ap (λ (k : ℕ). length (take k r.script.line)) z in
-          prints script out out1 (1 + r.script.progress.lines) (whole.wrote-all script out words next links gens out1 r room first g n)
+          let n : length (held r) ≡ 0 = ap (λ (k : ℕ). length (take k r.line)) z in
+          prints script out out1 (1 + r.progress.lines) (whole.wrote-all script out words next links gens out1 t r room first g n)
 
       -- the last line lacks its end
-      module _ (size : length r.script.line ≡ 88) (z : r.script.progress.len ≡ 0 → ⊥) (words' next' links' gens' out2 : List ℕ) (q : Fed)
-          (h : Feeds f.later r.script (10 ∷ []) out1 r.script.progress.at words' next' links' gens' out2 q) where
-        begins : 1 ≤ length (held r.script)
-        begins = elim (dec_lt 0 r.script.progress.len) [ yes l ↦ omega (arith, length-take r.script.progress.len r.script.line, size) | no l ↦ absurd (z (omega arith)) ]
+      module _ (z : r.progress.len ≡ 0 → ⊥) (words' next' links' gens' out2 : List ℕ) (t' : Tables) (q : Script)
+          (h : Feeds f.later r (10 ∷ []) out1 r.progress.at words' next' links' gens' out2 t' q) where
+        begins : 1 ≤ length (held r)
+        begins = elim (dec_lt 0 r.progress.len) [ yes l ↦ omega (arith, length-take r.progress.len r.line, first.room) | no l ↦ absurd (z (omega arith)) ]
 
-        pub prints-last : Prints script out out2 (1 + r.script.progress.lines + q.script.progress.lines)
+        pub prints-last : Prints script out out2 (1 + r.progress.lines + q.progress.lines)
         unfolding first
         prints-last =
-            prints script out out2 (1 + r.script.progress.lines + q.script.progress.lines)
-            (whole.wrote-last script out words next links gens out1 r room first g begins words' next' links' gens' out2 q h)
+            prints script out out2 (1 + r.progress.lines + q.progress.lines)
+            (whole.wrote-last script out words next links gens out1 t r room first g begins words' next' links' gens' out2 t' q h)

@@ -8,16 +8,16 @@ use Rattle.definitions.specs.Questions.{ask, refusal_number}
 use Rattle.definitions.specs.Calls.{State, start, compartment, after}
 use Rattle.definitions.specs.Script.{lines_of, left_from, output_of, whole_lines}
 use Rattle.definitions.specs.declared.answer.Refusal.TheVariants.{NoCompartment}
-use Rattle.definitions.specs.declared.answer.Answer.{Answer}
-use Rattle.definitions.specs.declared.answer.Answer.TheVariants.{Accepted, Refused}
+use Rattle.definitions.specs.Answers.{Answer}
+use Rattle.std.specs.Prelude.{Ok, Err}
 use Rattle.definitions.specs.declared.call.Call.{Call}
 use Rattle.capability_engine.specs.CompartmentGrown.{Grown, page_left}
 use Rattle.capability_engine.specs.declared.compartments.Tables.{Tables}
 
 -- an answer as one number: its value, or 2^64 less the number of the refusal
 abbrev pub coded : Answer → ℕ
-coded (Accepted value) = value
-coded (Refused refusal) = 2 ^ 64 - refusal_number refusal
+coded (Ok value) = value
+coded (Err refusal) = 2 ^ 64 - refusal_number refusal
 
 -- what a whole script leaves
 unfoldable pub left_by : List ℕ → State
@@ -30,7 +30,7 @@ pub record Prints (script out out' : List ℕ) (r : ℕ) : Type 0 where
 
 -- a page of a compartment's groups in a state; past the eight compartments the slice is as it was
 pub record ReadsPage (width : ℕ) (groups : Compartment → List (List ℕ)) (s : State) (k from : ℕ) (out out' : List ℕ) (r : ℕ) : Type 0 where
-  pub answered : r ≡ coded (ask ((k <? 8, NoCompartment) ∷ []) (Accepted (length (page width (groups (compartment s k)) from (length out)))))
+  pub answered : r ≡ coded (ask ((k <? 8, NoCompartment) ∷ []) (Ok (length (page width (groups (compartment s k)) from (length out)))))
   pub slice : out' ≡ page_left width (groups (compartment s k)) k from out
 
 -- tables that calls grew, and that hold a state

@@ -9,8 +9,8 @@ use Rattle.definitions.specs.Calls.{State, allowance, after}
 use Rattle.definitions.specs.Questions.{ask}
 use Rattle.definitions.specs.Planner.{plan_answer, plan_left}
 use Rattle.definitions.specs.declared.answer.Refusal.TheVariants.{NoCompartment}
-use Rattle.definitions.specs.declared.answer.Answer.{Answer}
-use Rattle.definitions.specs.declared.answer.Answer.TheVariants.{Refused}
+use Rattle.definitions.specs.Answers.{Answer}
+use Rattle.std.specs.Prelude.{Err}
 use Rattle.definitions.specs.declared.call.Call.{Call}
 use Rattle.capability_engine.specs.declared.region.RegionTracker.{RegionTracker}
 use Rattle.capability_engine.specs.declared.compartments.Tables.{Tables}
@@ -34,7 +34,7 @@ module _ (words next links gens : List ℕ) (t : Tables) (calls : List Call) (g 
   allowance-is k d l = sym (allowance-at t.trackers k d (tracker-there k l)) ∙ ap (λ ms. get_or ms k 0) g.pooled.allowed
 
   module _ (k : ℕ) (ns : List ℕ) (from : ℕ) (out : List ℕ) where
-    pub plan-nowhere : 8 ≤ k → ReadsPlan calls k ns from out out (Refused NoCompartment)
+    pub plan-nowhere : 8 ≤ k → ReadsPlan calls k ns from out out (Err NoCompartment)
     unfolding plan_answer plan_left ask
     plan-nowhere h = record { answered = simp (le-ltb k 8 h); slice = simp (le-ltb k 8 h) }
 

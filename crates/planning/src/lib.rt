@@ -4,18 +4,19 @@
 
 ghost use Rattle.std.specs.Prelude.{List};
 ghost use Rattle.definitions.specs.declared.call.Call.{Call};
-ghost use Rattle.capability_engine.specs.CompartmentGrown.{Grown, IsGrown, Sized, ReadsPlan};
+ghost use Rattle.capability_engine.specs.CompartmentGrown.{Grown, IsGrown, ReadsPlan};
 ghost use Rattle.exports.specs.Exports.{left_by};
 ghost use Rattle.planner.specs.Writing.{PrintsPlan};
 ghost use Rattle.planning.specs.Plans.{PlansAfter};
 
-use capability_engine::{POOL_LEN, Tables};
-use definitions::{Answer, Refusal};
+use capability_engine::{Tables, index_of};
+use definitions::Answer;
+use exports::{Pool, coded};
 
 // A page of the adds that give a list of permissions, as groups of three numbers, in a compartment that is empty: from add `from`
 // on, as many groups of start, end and rights as out takes. What the compartment holds is not asked.
 pub fn plan(
-    tables: Tables,
+    tables: &Tables,
     compartment: u64,
     wanted: &[u64],
     from: usize,
@@ -25,48 +26,12 @@ pub fn plan(
     links: &[usize],
     gens: &[u64],
 ) -> Answer
-    requires { IsGrown words.now next.now links.now gens.now tables }
-    ensures { (calls : List Call) → Grown words.now next.now links.now gens.now tables calls → ReadsPlan calls compartment wanted.now from out.old out.new result }
+    requires { IsGrown words.now next.now links.now gens.now tables.now }
+    ensures { (calls : List Call) → Grown words.now next.now links.now gens.now tables.now calls → ReadsPlan calls compartment wanted.now from out.old out.new result }
 {
-    if 8 <= compartment {
-        return Answer::Refused(Refusal::NoCompartment);
-    }
-    let k = compartment as usize;
-    let trackers = tables.trackers;
-    let tracker = trackers[k];
+    let k = index_of(compartment)?;
+    let tracker = tables.trackers[k];
     planner::plan(tracker.allowance as u64, wanted, from, out)
-}
-
-// The same after a script, with the tables in these slices.
-fn plan_in(
-    script: &[u8],
-    compartment: u64,
-    wanted: &[u64],
-    from: usize,
-    out: &mut [u64],
-    words: &mut [u64],
-    next: &mut [usize],
-    links: &mut [usize],
-    gens: &mut [u64],
-) -> u64
-    requires { Sized words.old next.old links.old gens.old }
-    ensures { PlansAfter (left_by script.now) compartment wanted.now from out.old out.new result }
-{
-    let made = Tables::new(words, next, links, gens);
-    let empty = made.tables;
-    let tables = empty.replay(script, words, next, links, gens);
-    let answer = plan(
-        tables,
-        compartment,
-        wanted,
-        from,
-        out,
-        words,
-        next,
-        links,
-        gens,
-    );
-    exports::coded(answer)
 }
 
 // A page of the script for a wanted layout, under the allowance that a compartment has after a script.
@@ -79,21 +44,20 @@ pub fn plan_page(
 ) -> u64
     ensures { PlansAfter (left_by script.now) compartment wanted.now from out.old out.new result }
 {
-    let mut words = [0u64; POOL_LEN];
-    let mut next = [0usize; 1025];
-    let mut links = [0usize; 1024];
-    let mut gens = [0u64; 1024];
-    plan_in(
-        script,
+    let mut p = Pool::new();
+    let tables = p.tables_after(script);
+    let answer = plan(
+        &tables,
         compartment,
         wanted,
         from,
         out,
-        &mut words,
-        &mut next,
-        &mut links,
-        &mut gens,
-    )
+        &p.words,
+        &p.next,
+        &p.links,
+        &p.gens,
+    );
+    coded(answer)
 }
 
 // The script for a wish that is a text, or its refusal: as many whole lines as out takes; answers how many bytes.

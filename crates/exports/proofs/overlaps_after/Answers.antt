@@ -1,5 +1,4 @@
 use Rattle.definitions.specs.Tests.{guest}
-use borrow.Author.Rules.{rules}
 use Rattle.exports.proofs.Laws.{asked}
 use Rattle.exports.proofs.overlaps_after.Goals as goal
 

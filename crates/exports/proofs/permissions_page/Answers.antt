@@ -1,4 +1,3 @@
-use borrow.Author.Rules.{rules}
 use Rattle.exports.proofs.Laws.{permissions-read}
 use Rattle.exports.proofs.permissions_page.Goals as goal
 

@@ -1,4 +1,3 @@
-use borrow.Author.Rules.{rules}
 use Rattle.exports.proofs.Laws.{list-page}
 use Rattle.exports.proofs.segments_page.Goals as goal
 

@@ -1,4 +1,3 @@
-use borrow.Author.Rules.{rules}
 use Rattle.exports.proofs.Laws.{stream-read}
 use Rattle.exports.proofs.stream_page.Goals as goal
 
