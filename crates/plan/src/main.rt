@@ -3,7 +3,6 @@
 // that it is to have, 128 without one.
 #![tactic(auto)]
 
-use columns::Column;
 use definitions::Refusal;
 use std::env::{Env, FillError};
 use std::io;
@@ -12,79 +11,62 @@ use std::io::{Stderr, Stdin, Stdout};
 // The bytes of the longest script: eight lines that set allowances, and for each two of 1,024 ranges three adds.
 const SCRIPT_LEN: usize = 103112;
 
-// A word that the program was started with.
-#[derive(Clone, Copy)]
-enum Word {
-    Number(u64),
-    Other,
-}
+// A refusal that is told, and the value in its line.
+type Told = (Refusal, u64);
 
-// What stands behind 1,024 lines of a wish: nothing, lines of the form, or one that is not, by its number.
-#[derive(Clone, Copy)]
-enum Rest {
-    Nothing,
-    Ranges,
-    Malformed(u64),
-}
-
-// Word i, or what it is where it is missing.
-fn word_at(rt: HostRuntime, i: usize, missing: u64) -> Word {
+// Word i, or what it is where it is missing, if that is a number.
+fn word_at(rt: HostRuntime, i: usize, missing: u64) -> Option<u64> {
     let mut bytes = [0u8; 20];
-    let n = match rt.arg(i, &mut bytes) {
-        Ok(n) => n,
-        Err(FillError::TooLong) => 0,
-        Err(FillError::NotPresent) => return Word::Number(missing),
-    };
-    match columns::read(&bytes[..n]) {
-        Column::Number(number) => Word::Number(number),
-        Column::Malformed => Word::Other,
+    match rt.arg(i, &mut bytes) {
+        Ok(n) => columns::read(&bytes[..n]),
+        Err(FillError::TooLong) => None,
+        Err(FillError::NotPresent) => Some(missing),
     }
 }
 
-// Reads on to the end. A line of the form has 64 bytes with its end, so a piece of 65,536 bytes of them ends where a line does.
-fn read_rest(input: Stdin) -> io::Result<Rest> {
+// The compartment and its allowance, if the program was started with such words and no third.
+fn words(rt: HostRuntime) -> Option<(u64, u64)> {
+    if has_third_word(rt) {
+        return None;
+    }
+    Some((word_at(rt, 1, 0)?, word_at(rt, 2, 128)?))
+}
+
+// Reads on to the end, behind 1,024 lines of a wish: no allowance takes more ranges, but a line that is not of the form is told before
+// that. A line of the form has 64 bytes with its end, so a piece of 65,536 bytes of them ends where a line does.
+fn read_rest(input: Stdin) -> io::Result<Option<Told>> {
     let mut input = input;
     let mut piece = [0u8; 65536];
-    let mut lines: u64 = 1024;
-    let mut rest = Rest::Nothing;
+    let mut refused = None;
     // more turns than any input has, so that the loop is seen to end; and so many lines do not wrap
-    let mut turns: u64 = 0x100_0000_0000;
-    while turns > 0 {
+    for pieces in 1..0x100_0000_0001u64 {
         let n = streams::read_full(&mut input, &mut piece)?;
         if n == 0 {
-            return Ok(rest);
+            return Ok(refused);
         }
-        let line = planner::first_malformed(&piece[..n]) as u64;
-        if line > 0 {
-            return Ok(Rest::Malformed(std::num::wrapping_add_u64(lines, line)));
+        if let Some(line) = planner::first_malformed(&piece[..n]) {
+            let lines = 1024 * pieces;
+            return Ok(Some((Refusal::Malformed, lines.wrapping_add(line as u64))));
         }
-        rest = Rest::Ranges;
-        lines = std::num::wrapping_add_u64(lines, 1024);
-        turns -= 1;
+        refused = Some((Refusal::NoScript, 0));
     }
-    Ok(rest)
+    Ok(refused)
 }
 
-// What is behind a text that fills its buffer, where that decides. No allowance takes more ranges, but a line that is not of the form
-// is told before that.
-fn behind(
+// What is told for what is behind a text that fills its buffer, where that decides.
+fn refused_behind(
     input: Stdin,
     compartment: u64,
     allowance: u64,
     text: &[u8],
     full: usize,
-) -> io::Result<Rest> {
-    if text.len() < full {
-        return Ok(Rest::Nothing);
-    }
-    if 8 <= compartment {
-        return Ok(Rest::Nothing);
-    }
-    if 1024 < allowance {
-        return Ok(Rest::Nothing);
-    }
-    if planner::first_malformed(text) > 0 {
-        return Ok(Rest::Nothing);
+) -> io::Result<Option<Told>> {
+    if text.len() < full
+        || 8 <= compartment
+        || 1024 < allowance
+        || planner::first_malformed(text).is_some()
+    {
+        return Ok(None);
     }
     read_rest(input)
 }
@@ -104,15 +86,18 @@ fn plan(
     text: &[u8],
     full: usize,
 ) -> io::Result<()> {
-    match behind(rt.stdin(), compartment, allowance, text, full)? {
-        Rest::Nothing => {
-            let mut out = [0u8; SCRIPT_LEN];
-            let len = planner::plan_script(compartment, allowance, text, &mut out);
-            rt.stdout().write_all(&out[..len])
-        }
-        Rest::Ranges => tell(rt.stdout(), Refusal::NoScript, 0),
-        Rest::Malformed(line) => tell(rt.stdout(), Refusal::Malformed, line),
+    if let Some((refusal, value)) = refused_behind(
+        rt.stdin(),
+        compartment,
+        allowance,
+        text,
+        full,
+    )? {
+        return tell(rt.stdout(), refusal, value);
     }
+    let mut out = [0u8; SCRIPT_LEN];
+    let len = planner::plan_script(compartment, allowance, text, &mut out);
+    rt.stdout().write_all(&out[..len])
 }
 
 fn usage(out: Stderr) -> io::Result<()> {
@@ -127,13 +112,7 @@ fn has_third_word(rt: HostRuntime) -> bool {
 }
 
 fn main(rt: HostRuntime) -> io::Result<()> {
-    if has_third_word(rt) {
-        return usage(rt.stderr());
-    }
-    let Word::Number(compartment) = word_at(rt, 1, 0) else {
-        return usage(rt.stderr());
-    };
-    let Word::Number(allowance) = word_at(rt, 2, 128) else {
+    let Some((compartment, allowance)) = words(rt) else {
         return usage(rt.stderr());
     };
     let mut text = [0u8; 65536];

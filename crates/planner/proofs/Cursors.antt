@@ -1,7 +1,9 @@
 -- What a cursor has still to come, and what the tests of a list say.
+use Rattle.std.specs.Prelude.{Option, None, Some}
+use Rattle.std.specs.Option.{is_some}
 use Prim.Native.Nat.{ℕ, ◌+◌, ◌*◌, ◌/◌, ◌%◌, ◌<◌, ◌≤◌}
 use mathlib.Core.Path.{◌≡◌, refl, sym, ap, ◌∙◌}
-use mathlib.Core.Bool.{Bool, true, false, not, ◌&&◌}
+use mathlib.Core.Bool.{Bool, true, false, true≢false, not}
 use mathlib.Core.List.{List, [], ◌∷◌, map}
 use lib.ListN.{length, get_or, drop, length-drop}
 use lib.Seq.{get_or-drop, drop-drop}
@@ -11,12 +13,14 @@ use Rattle.definitions.specs.Tests.{◌≤?◌, host}
 use Rattle.definitions.specs.Planner.{wanted, finished, touches, plan_after, plan, plan_groups, apart, can_be, can_wish, on_plan, plan_filled}
 use Rattle.definitions.specs.Pages.{permission_group, Filled}
 use Rattle.definitions.specs.Questions.{ask}
-use Rattle.definitions.specs.declared.answer.Answer.TheVariants.{Accepted, Refused}
+use Rattle.std.specs.Prelude.{Ok, Err}
 use Rattle.definitions.specs.declared.answer.Refusal.TheVariants.{NoScript}
 use Rattle.definitions.specs.declared.region.MemoryPermission.{MemoryPermission}
 use Rattle.definitions.proofs.Bools.{and-false}
+use Rattle.planner.specs.declared.Before.{Before}
+use Rattle.planner.specs.declared.Before.TheVariants.{Done, Once, Same}
 use Rattle.planner.specs.declared.PlanCursor.{PlanCursor}
-use Rattle.planner.specs.Cursor.{wanted_at, after_one, ahead, plan_from}
+use Rattle.planner.specs.Cursor.{wanted_at, step_on, after_one, ahead, plan_from, Next}
 use Rattle.planner.specs.Page.{PlansPage}
 use Rattle.definitions.proofs.Fills.{opens, drop_past, from_at}
 
@@ -62,29 +66,33 @@ length-wanted (a ∷ e ∷ r ∷ ns) = omega (arith, length-wanted ns)
 
 -- ---- the cursor
 
-ahead_after : (at : ℕ) (once : Bool) (w : MemoryPermission) (vs : List MemoryPermission)
-    → ahead (record { at = at; again = false; once = once; last = w }) vs ≡ plan_after w once vs
-unfolding ahead plan_after
-ahead_after at once w [] = refl
-ahead_after at once w (v ∷ vs) = refl
+once-ahead : (w : MemoryPermission) (vs : List MemoryPermission) → ahead (Once w) vs ≡ plan_after w true vs
+unfolding plan_after
+once-ahead w [] = refl
+once-ahead w (v ∷ vs) = refl
 
-plan-is : (p : MemoryPermission) (ws : List MemoryPermission) → plan_after p false ws ≡ plan ws
-unfolding plan_after plan
-plan-is p [] = refl
-plan-is p (w ∷ ws) = refl
+done-ahead : (w : MemoryPermission) (vs : List MemoryPermission) → ahead Done vs ≡ plan_after w false vs
+unfolding plan_after
+done-ahead w [] = refl
+done-ahead w (v ∷ vs) = refl
 
-pub plan-start : (ns : List ℕ) (p : MemoryPermission) → plan_from ns (record { at = 0; again = false; once = false; last = p }) ≡ plan (wanted ns)
+start-ahead : (vs : List MemoryPermission) → ahead Done vs ≡ plan vs
+unfolding plan
+start-ahead [] = refl
+start-ahead (v ∷ vs) = refl
+
+pub plan-start : (ns : List ℕ) → plan_from ns (record { at = 0; before = Done }) ≡ plan (wanted ns)
 unfolding plan_from
-plan-start ns p = ahead_after 0 false p (wanted ns) ∙ plan-is p (wanted ns)
+plan-start ns = start-ahead (wanted ns)
 
 pub plan-end : (ns : List ℕ) (c : PlanCursor) → length ns / 3 ≤ c.at → plan_from ns c ≡ []
-unfolding plan_from ahead
-plan-end ns c l = ap (ahead c) (none-at ns c.at l)
+unfolding plan_from
+plan-end ns c l = ap (ahead c.before) (none-at ns c.at l)
 
 pub plan-step : (ns : List ℕ) (c : PlanCursor) → 3 * c.at + 3 ≤ length ns
     → plan_from ns c ≡ wanted_at ns c.at ∷ plan_from ns (after_one c (wanted_at ns c.at))
-unfolding plan_from ahead after_one plan_after
-plan-step ns c l = ap (ahead c) (group_at ns c.at l) ∙ go c.again refl (c.once && touches c.last w) refl
+unfolding plan_from after_one plan_after
+plan-step ns c l = ap (ahead c.before) (group_at ns c.at l) ∙ go c.before
   where
     w : MemoryPermission
     w = wanted_at ns c.at
@@ -92,26 +100,36 @@ plan-step ns c l = ap (ahead c) (group_at ns c.at l) ∙ go c.again refl (c.once
     rest : List MemoryPermission
     rest = wanted (drop (3 * (c.at + 1)) ns)
 
-    go : (b : Bool) → c.again ≡ b → (t : Bool) → (c.once && touches c.last w) ≡ t
-        → ahead c (w ∷ rest) ≡ w ∷ plan_from ns (after_one c w)
-    go true d t f = simp d (ap (λ vs. w ∷ vs) (sym (ahead_after (c.at + 1) false w rest)))
-    go false d true f = simp (d, f) (ap (λ vs. w ∷ vs) (sym (ap (ahead (record { at = c.at; again = true; once = false; last = c.last })) (group_at ns c.at l))))
-    go false d false f = simp (d, f) (ap (λ vs. w ∷ vs) (sym (ahead_after (c.at + 1) true w rest)))
+    go : (b : Before) → ahead b (w ∷ rest) ≡ w ∷ plan_from ns (step_on c.at b w)
+    go Done = ap (λ vs. w ∷ vs) (sym (once-ahead w rest))
+    go Same = ap (λ vs. w ∷ vs) (sym (done-ahead w rest))
+    go (Once p) = joins (touches p w) refl
+      where
+        joins : (t : Bool) → touches p w ≡ t → ahead (Once p) (w ∷ rest) ≡ w ∷ plan_from ns (step_on c.at (Once p) w)
+        joins true d = simp d (ap (λ vs. w ∷ vs) (sym (ap (ahead Same) (group_at ns c.at l))))
+        joins false d = simp d (ap (λ vs. w ∷ vs) (sym (once-ahead w rest)))
 
 pub step_is : (ns : List ℕ) (c d : PlanCursor) (w : MemoryPermission) → 3 * c.at + 3 ≤ length ns → w ≡ wanted_at ns c.at → d ≡ after_one c w
     → plan_from ns c ≡ w ∷ plan_from ns d
 step_is ns c d w l e f = rw (f, e) (plan-step ns c l)
 
 -- past one add more
-pub skip_step : (ns : List ℕ) (c d : PlanCursor) (w : MemoryPermission) (i : ℕ) (xs : List MemoryPermission) → 3 * c.at + 3 ≤ length ns → w ≡ wanted_at ns c.at
-    → d ≡ after_one c w → plan_from ns c ≡ drop i xs → plan_from ns d ≡ drop (i + 1) xs
-skip_step ns c d w i xs l e f g = sym (opens xs i w (plan_from ns d) (sym g ∙ step_is ns c d w l e f)).back
+pub skip_step : (ns : List ℕ) (c d : PlanCursor) (w : MemoryPermission) (i : ℕ) (xs : List MemoryPermission) → plan_from ns c ≡ w ∷ plan_from ns d
+    → plan_from ns c ≡ drop i xs → plan_from ns d ≡ drop (i + 1) xs
+skip_step ns c d w i xs e g = sym (opens xs i w (plan_from ns d) (sym g ∙ e)).back
 
-pub skip-done : (ns : List ℕ) (c : PlanCursor) (i k : ℕ) (xs : List MemoryPermission) → i ≡ k → plan_from ns c ≡ drop i xs → plan_from ns c ≡ drop k xs
-skip-done ns c i k xs e g = g ∙ ap (λ n. drop n xs) e
+pub skip-end : (ns : List ℕ) (c d : PlanCursor) (i k : ℕ) (xs : List MemoryPermission) → (plan_from ns c ≡ []) × (d ≡ c) → i ≤ k → plan_from ns c ≡ drop i xs → plan_from ns d ≡ drop k xs
+skip-end ns c d i k xs z m g = ap (plan_from ns) z.1 ∙ z.0 ∙ sym (drop_past xs i k (sym g ∙ z.0) m)
 
-pub skip-end : (ns : List ℕ) (c : PlanCursor) (i k : ℕ) (xs : List MemoryPermission) → length ns / 3 ≤ c.at → i ≤ k → plan_from ns c ≡ drop i xs → plan_from ns c ≡ drop k xs
-skip-end ns c i k xs l m g = plan-end ns c l ∙ sym (drop_past xs i k (sym g ∙ plan-end ns c l) m)
+-- what a test of the add taken says
+module _ (ns : List ℕ) (c d : PlanCursor) where
+  pub stopped : (r : Option MemoryPermission) → Next ns c d r → is_some r ≡ false → (plan_from ns c ≡ []) × (d ≡ c)
+  stopped None n e = n
+  stopped (Some w) n e = absurd (true≢false e)
+
+  pub went : (r : Option MemoryPermission) → Next ns c d r → is_some r ≡ true → (w : MemoryPermission) × (plan_from ns c ≡ w ∷ plan_from ns d)
+  went None n e = absurd (true≢false (sym e))
+  went (Some w) n e = (w, n)
 
 -- ---- the tests of a list
 
@@ -169,29 +187,14 @@ pub ruleset lacks = (lacks-number, lacks-none)
 
 -- ---- what the functions return
 
-module _ (c : PlanCursor) (w : MemoryPermission) where
-  pub after-again : c.again ≡ true → record { at = c.at + 1; again = false; once = false; last = w } ≡ after_one c w
-  unfolding after_one
-  after-again d = simp d
-
-  pub after-twice : (b : Bool) → c.again ≡ false → b ≡ (c.once && touches c.last w) → b ≡ true
-      → record { at = c.at; again = true; once = false; last = c.last } ≡ after_one c w
-  unfolding after_one
-  after-twice b d e f = simp (d, sym e ∙ f)
-
-  pub after-once : (b : Bool) → c.again ≡ false → b ≡ (c.once && touches c.last w) → b ≡ false
-      → record { at = c.at + 1; again = false; once = true; last = w } ≡ after_one c w
-  unfolding after_one
-  after-once b d e f = simp (d, sym e ∙ f)
-
 module _ (allowance : ℕ) (ns : List ℕ) (from : ℕ) (before : List ℕ) (b : Bool) (e : b ≡ can_wish allowance ns) where
-  pub page-none : not b ≡ true → PlansPage allowance ns from before before (Refused NoScript)
+  pub page-none : not b ≡ true → PlansPage allowance ns from before before (Err NoScript)
   unfolding on_plan plan_filled ask
   page-none d = record { answered = rw (sym e ∙ not-true b d); left = rw (sym e ∙ not-true b d) }
 
   pub page-some : not b ≡ false → (c : PlanCursor) → plan_from ns c ≡ drop from (plan (wanted ns)) → (after : List ℕ) (n : ℕ)
-      → Filled 3 (map permission_group (plan_from ns c)) 0 before after n → PlansPage allowance ns from before after (Accepted n)
+      → Filled 3 (map permission_group (plan_from ns c)) 0 before after n → PlansPage allowance ns from before after (Ok n)
   unfolding on_plan plan_filled plan_groups ask
   page-some d c g after n f =
       let h = from_at 3 permission_group (plan (wanted ns)) (plan_from ns c) from before after n g f in
-      record { answered = rw (sym e ∙ not-false b d) (ap Accepted h.many); left = rw (sym e ∙ not-false b d) h.slice }
+      record { answered = rw (sym e ∙ not-false b d) (ap Ok h.many); left = rw (sym e ∙ not-false b d) h.slice }

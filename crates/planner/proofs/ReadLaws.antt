@@ -1,12 +1,17 @@
 -- A wish's text, line by line.
-use Prim.Native.Nat.{ℕ, ◌+◌, ◌-◌, ◌*◌, ◌/◌, ◌<◌, ◌≤◌}
+use Rattle.std.specs.Prelude.{Option, None, Some, Result, Ok, Err}
+use Rattle.std.specs.Int.{div_ceil}
+use Rattle.std.specs.Option.{ok_or}
+use Rattle.std.specs.Result.{result_err}
+use Rattle.std.proofs.lemmas.List.{take-take, take_at, drop_at, drop-take, take_min}
+use Prim.Native.Nat.{min, ℕ, ◌+◌, ◌-◌, ◌*◌, ◌<◌, ◌≤◌}
 use mathlib.Core.Path.{◌≡◌, refl, sym, ap, ◌∙◌, subst}
 use mathlib.Core.Bool.{Bool, true, false, true≢false}
 use mathlib.Core.List.{List, [], ◌∷◌, ◌++◌, append-nil, append_assoc}
 use native.Mathlib.Decide.{ℕ_discrete, dec_lt}
 use native.Mathlib.Omega.{arith}
-use lib.ListN.{length, get_or, take, drop, length-append, length-drop, take-append-drop, drop_of_length-le}
-use lib.Seq.{sets, sets-eq, length-sets, drop-cons, drop-drop, take_at, length-take-le}
+use lib.ListN.{length, get_or, take, drop, length-append, length-drop, length-take, take-append-drop, drop_of_length-le}
+use lib.Seq.{sets, sets-eq, drop-drop, get_or-drop, length-take-le}
 use borrow.Author.Tests.{eq-eqb, eqb-true}
 use Rattle.definitions.specs.Tests.{◌=?◌}
 use Rattle.definitions.specs.Pages.{permission_group}
@@ -15,16 +20,10 @@ use Rattle.definitions.specs.Wishes.{Wish, wish, broken, and_later, range_of, wi
 use Rattle.definitions.specs.declared.region.MemoryPermission.{MemoryPermission}
 use Rattle.definitions.proofs.Fills.{three}
 use Rattle.columns.specs.Columns.{column_from}
-use Rattle.columns.specs.declared.Column.{Column}
-use Rattle.columns.specs.declared.Column.TheVariants as column
 use Rattle.lines.proofs.Fields.{first-column, one_number, no_number, then-unread, wrong-length}
 use Rattle.lines.proofs.Pieces.{lines-own}
 use Rattle.lines.proofs.Whole.{NoEnd, columns-none, first-line, only-line}
-use Rattle.planner.specs.Reading.{Says, ends, Begins, Behind, Keeps, Reads, ReadsWish, first_broken}
-use Rattle.planner.specs.declared.wishes.Range.{Range}
-use Rattle.planner.specs.declared.wishes.Range.TheVariants.{Is, Malformed}
-use Rattle.planner.specs.declared.wishes.Reading.{Reading}
-use Rattle.planner.specs.declared.wishes.Reading.TheVariants as reading
+use Rattle.planner.specs.Reading.{Says, ends, Begins, Heads, Keeps, Reads, ReadsWish, first_broken}
 
 -- ---- three columns
 
@@ -44,16 +43,16 @@ module _ (line : List ℕ) (size : length line ≡ 63) where
       first-column 21 [] (drop 42 line) (simp length-drop (omega arith))
       ∙ ap (λ (l : List ℕ). first_then (column_of (take 21 (drop 42 line))) (columns_of [] l)) (drop-drop 21 42 line ∙ drop_of_length-le line {i = 63} (omega arith))
 
-  module _ (r : Column) where
-    pub range-1 : r ≡ column_from (column_of (take 21 line)) → r ≡ column.Malformed → range_of line ≡ unread
+  module _ (r : Option ℕ) where
+    pub range-1 : r ≡ column_from (column_of (take 21 line)) → r ≡ None → range_of line ≡ unread
     range-1 e d = first ∙ no_number (column_of (take 21 line)) (sym e ∙ d) _
 
-    pub range-2 : r ≡ column_from (column_of (take 21 (drop 21 line))) → r ≡ column.Malformed → range_of line ≡ unread
+    pub range-2 : r ≡ column_from (column_of (take 21 (drop 21 line))) → r ≡ None → range_of line ≡ unread
     range-2 e d =
         first ∙ ap (first_then (column_of (take 21 line))) (second ∙ no_number (column_of (take 21 (drop 21 line))) (sym e ∙ d) _)
         ∙ then-unread (column_of (take 21 line))
 
-    pub range-3 : r ≡ column_from (column_of (take 21 (drop 42 line))) → r ≡ column.Malformed → range_of line ≡ unread
+    pub range-3 : r ≡ column_from (column_of (take 21 (drop 42 line))) → r ≡ None → range_of line ≡ unread
     range-3 e d =
         first
         ∙ ap (first_then (column_of (take 21 line)))
@@ -61,9 +60,9 @@ module _ (line : List ℕ) (size : length line ≡ 63) where
         ∙ then-unread (column_of (take 21 (drop 21 line))))
         ∙ then-unread (column_of (take 21 line))
 
-  pub range_all : (r s t : Column) (a b c : ℕ) → r ≡ column_from (column_of (take 21 line)) → r ≡ column.Number a
-      → s ≡ column_from (column_of (take 21 (drop 21 line))) → s ≡ column.Number b
-      → t ≡ column_from (column_of (take 21 (drop 42 line))) → t ≡ column.Number c → range_of line ≡ numbers (a ∷ b ∷ c ∷ [])
+  pub range_all : (r s t : Option ℕ) (a b c : ℕ) → r ≡ column_from (column_of (take 21 line)) → r ≡ Some a
+      → s ≡ column_from (column_of (take 21 (drop 21 line))) → s ≡ Some b
+      → t ≡ column_from (column_of (take 21 (drop 42 line))) → t ≡ Some c → range_of line ≡ numbers (a ∷ b ∷ c ∷ [])
   range_all r s t a b c e d f g h i =
       first ∙ one_number (column_of (take 21 line)) a (sym e ∙ d) _
       ∙ ap (first_then (numbers (a ∷ [])))
@@ -72,13 +71,15 @@ module _ (line : List ℕ) (size : length line ≡ 63) where
 
 -- ---- a line's end
 
-pub ends-none : (text : List ℕ) (at : ℕ) → at ≡ length text → true ≡ ends (drop at text)
+pub ends-none : (rest : List ℕ) → length rest ≡ 0 → true ≡ ends rest
 unfolding ends
-ends-none text at e = rw (drop_of_length-le text {i = at} (omega arith))
+ends-none [] e = refl
+ends-none (b ∷ bs) e = absurd (omega arith)
 
-pub ends-byte : (text : List ℕ) (at : ℕ) → at < length text → (get_or text at 0 =? 10) ≡ ends (drop at text)
+pub ends-byte : (rest : List ℕ) → 0 < length rest → (get_or rest 0 0 =? 10) ≡ ends rest
 unfolding ends
-ends-byte text at l = rw (drop-cons text at 0 l)
+ends-byte [] l = absurd (omega arith)
+ends-byte (b ∷ bs) l = refl
 
 -- ---- the first line of bytes
 
@@ -120,7 +121,7 @@ other_length line h = wrong-length 3 line (λ e. h (e ∙ omega arith))
 module _ (bs : List ℕ) (some : 1 ≤ length bs) where
   -- bytes whose first line is not of the form
   not_first : ((line : List ℕ) (later : List (List ℕ)) → FirstLine bs line later → length line ≡ 63 → range_of line ≡ unread)
-      → Begins bs Malformed
+      → Begins bs None
   unfolding wish_from
   not_first h n =
       let f = first_of bs some in
@@ -131,23 +132,23 @@ module _ (bs : List ℕ) (some : 1 ≤ length bs) where
       ] in
       ap (wish_from n) f.2.lines ∙ ap (λ (r : Read). and_later n r (wish_from (n + 1) f.1)) no-range
 
-  pub too_short : length bs < 63 → Begins bs Malformed
+  pub too_short : length bs < 63 → Begins bs None
   too_short l = not_first (λ line later f e. absurd (omega (arith, f.within)))
 
-  pub not-ended : 63 ≤ length bs → ends (drop 63 bs) ≡ false → Begins bs Malformed
+  pub not-ended : 63 ≤ length bs → ends (drop 63 bs) ≡ false → Begins bs None
   not-ended l e =
       not_first (λ line later f q.
       absurd (true≢false (elim (dec_lt 63 (length bs)) [
-        | yes m ↦ sym (eq-eqb (get_or bs 63 0) 10 (ap (λ (k : ℕ). get_or bs k 0) (sym q) ∙ f.next (omega arith))) ∙ ends-byte bs 63 m ∙ e
-        | no m ↦ ends-none bs 63 (omega arith) ∙ e
+        | yes m ↦ sym (eq-eqb (get_or bs 63 0) 10 (ap (λ (k : ℕ). get_or bs k 0) (sym q) ∙ f.next (omega arith))) ∙ ap (λ (n : ℕ). n =? 10) (sym (get_or-drop 63 bs 0 0)) ∙ ends-byte (drop 63 bs) (simp length-drop (omega arith)) ∙ e
+        | no m ↦ ends-none (drop 63 bs) (length-drop 63 bs ∙ omega arith) ∙ e
       ])))
 
-  pub not-read : range_of (take 63 bs) ≡ unread → Begins bs Malformed
+  pub not-read : range_of (take 63 bs) ≡ unread → Begins bs None
   not-read e = not_first (λ line later f q. ap range_of (sym f.front ∙ ap (λ (k : ℕ). take k bs) q) ∙ e)
 
 -- bytes that begin with 63 of the form, and an end or nothing behind them
 pub is_read : (bs : List ℕ) (p : MemoryPermission) → 63 ≤ length bs → ends (drop 63 bs) ≡ true → range_of (take 63 bs) ≡ numbers (permission_group p)
-    → Begins bs (Is p)
+    → Begins bs (Some p)
 unfolding wish_from ends range_of lines_of
 is_read bs p l e q n =
     ap (wish_from n) lines ∙ ap (λ (r : Read). and_later n r (wish_from (n + 1) (lines_of (drop 64 bs)))) q
@@ -178,44 +179,40 @@ is_read bs p l e q n =
     lines : lines_of bs ≡ front ∷ lines_of (drop 64 bs)
     lines = go (drop 63 bs) refl
 
--- the line at a place of the text
-module _ (text : List ℕ) (at : ℕ) (l : at < length text) where
-  rest-long : length (drop at text) ≡ length text - at
-  rest-long = length-drop at text
+-- it is told by the first byte
+ends-one : (rest : List ℕ) → ends (take 1 rest) ≡ ends rest
+unfolding ends
+ends-one [] = refl
+ends-one (b ∷ bs) = refl
 
-  pub short-at : length text - at < 63 → Begins (drop at text) Malformed
-  short-at h = too_short (drop at text) (omega (arith, rest-long)) (omega (arith, rest-long))
+-- the first 64 of the bytes, or all, say what begins them
+module _ (bs head : List ℕ) (e : head ≡ take 64 bs) (some : 1 ≤ length bs) where
+  head-long : length head ≡ min 64 (length bs)
+  head-long = ap length e ∙ length-take 64 bs
 
-  module _ (long : 63 ≤ length text - at) (b : Bool) (e : b ≡ ends (drop (at + 63) text)) where
-    here : b ≡ ends (drop 63 (drop at text))
-    here = e ∙ ap ends (sym (drop-drop 63 at text))
+  head-line : take 63 head ≡ take 63 bs
+  head-line = ap (take 63) e ∙ take-take 63 64 bs (omega arith)
 
-    pub unended-at : b ≡ false → Begins (drop at text) Malformed
-    unended-at d = not-ended (drop at text) (omega (arith, rest-long)) (omega (arith, rest-long)) (sym here ∙ d)
+  head-ends : 63 ≤ length head → ends (drop 63 head) ≡ ends (drop 63 bs)
+  head-ends l = ap (λ (x : List ℕ). ends (drop 63 x)) e ∙ ap ends (drop-take 63 1 bs) ∙ ends-one (drop 63 bs)
 
-    pub range-said : b ≡ true → (r : Range) → Says (take (at + 63 - at) (drop at text)) r → Begins (drop at text) r
-    range-said d r q = go r (let z : at + 63 - at ≡ 63 = omega arith in rw z at q)
-      where
-        go : (r : Range) → Says (take 63 (drop at text)) r → Begins (drop at text) r
-        go (Is p) q = is_read (drop at text) p (omega (arith, rest-long)) (sym here ∙ d) q
-        go Malformed q = not-read (drop at text) (omega (arith, rest-long)) q
+pub head-short : (head : List ℕ) → length head < 63 → Heads head None
+head-short head l bs e some = too_short bs some (omega (arith, head-long bs head e some))
 
--- ---- the next line, and the slice
+module _ (head : List ℕ) (long : 63 ≤ length head) (b : Bool) (e : b ≡ ends (drop 63 head)) where
+  pub head-unended : b ≡ false → Heads head None
+  head-unended d bs h some = not-ended bs some (omega (arith, head-long bs head h some)) (sym (head-ends bs head h some long) ∙ sym e ∙ d)
 
-pub behind-last : (len at : ℕ) → at < len → len - at < 64 → Behind len at len
-behind-last len at l h bs e =
-    drop_of_length-le bs {i = len} (omega arith) ∙ sym (drop_of_length-le (drop at bs) {i = 64} (simp length-drop (omega arith)))
-
-pub behind_more : (len at : ℕ) → Behind len at (at + 64)
-behind_more len at bs e = sym (drop-drop 64 at bs)
-
-pub keeps-put : (before after : List ℕ) (i : ℕ) (p : MemoryPermission) → after ≡ sets before (3 * i) (permission_group p) → Keeps before after i (permission_group p)
-keeps-put before after i p e = record { size = ap length e ∙ length-sets before (3 * i) (permission_group p); kept = λ l. e }
-
-pub keeps-none : (before : List ℕ) (i : ℕ) (p : MemoryPermission) → length before / 3 ≤ i → Keeps before before i (permission_group p)
-keeps-none before i p h = record { size = refl; kept = λ l. absurd (omega arith) }
+  pub head-said : b ≡ true → (r : Option MemoryPermission) → Says (take 63 head) r → Heads head r
+  head-said d (Some p) q bs h some =
+      is_read bs p (omega (arith, head-long bs head h some)) (sym (head-ends bs head h some long) ∙ sym e ∙ d) (ap range_of (sym (head-line bs head h some)) ∙ q)
+  head-said d None q bs h some = not-read bs some (ap range_of (sym (head-line bs head h some)) ∙ q)
 
 -- ---- a wish as far as it is read
+
+no-length : (bs : List ℕ) → length bs ≡ 0 → bs ≡ []
+no-length [] e = refl
+no-length (b ∷ bs) e = absurd (omega arith)
 
 also-none : (n : ℕ) (w : Wish) → and_later n (numbers []) w ≡ w
 also-none n (wish ns) = refl
@@ -225,74 +222,98 @@ also-both : (i j : ℕ) (ns ms : List ℕ) (w : Wish) → and_later i (numbers n
 also-both i j ns ms (wish ks) = ap wish (sym (append_assoc ns ms ks))
 also-both i j ns ms (broken m) = refl
 
--- of n lines, up to a place
-pub record Part (text slice : List ℕ) (at n : ℕ) : Type 0 where
+-- of n lines; the others are still to come
+pub record Part (text slice rest : List ℕ) (n : ℕ) : Type 0 where
   pub all : List ℕ
-  pub says : wish_of text ≡ and_later 0 (numbers all) (wish_from (n + 1) (lines_of (drop at text)))
+  pub says : wish_of text ≡ and_later 0 (numbers all) (wish_from (n + 1) (lines_of rest))
   pub many : length all ≡ 3 * n
   pub stored : 3 * n ≤ length slice → take (3 * n) slice ≡ all
-  pub few : n ≤ at
-  pub to : at ≤ length text
+  pub left : length rest ≡ length text - 64 * n
+  pub few : 64 * n < length text + 64
 
-pub part-start : (text slice : List ℕ) → Part text slice 0 0
+pub part-start : (text slice : List ℕ) → Part text slice text 0
 unfolding wish_of
 part-start text slice = record {
   all = [];
   says = sym (also-none 0 (wish_from 1 (lines_of text)));
   many = omega arith;
   stored = λ l. refl;
+  left = omega arith;
   few = omega arith;
-  to = omega arith;
 }
 
-module _ (text slice : List ℕ) (at n : ℕ) (g : Part text slice at n) where
-  pub part_end : length text ≤ at → Reads text slice n
+module _ (text slice rest : List ℕ) (n : ℕ) (g : Part text slice rest n) where
+  read-all : length rest ≡ 0 → Reads text slice n
   unfolding lines_of wish_from
-  part_end l = record {
+  read-all l = record {
     all = g.all;
-    says = g.says ∙ ap (λ (bs : List ℕ). and_later 0 (numbers g.all) (wish_from (n + 1) (lines_of bs))) (drop_of_length-le text {i = at} l) ∙ ap wish (append-nil g.all);
+    says = g.says ∙ ap (λ (bs : List ℕ). and_later 0 (numbers g.all) (wish_from (n + 1) (lines_of bs))) (no-length rest l) ∙ ap wish (append-nil g.all);
     many = g.many;
     stored = g.stored;
   }
 
-  pub part-broken : (r : Range) → Begins (drop at text) r → r ≡ Malformed → wish_of text ≡ broken (n + 1)
-  part-broken r b e = g.says ∙ ap (and_later 0 (numbers g.all)) (subst (Begins (drop at text)) e b (n + 1))
+  pub part_end : length rest ≡ 0 → (k : ℕ) → k ≡ div_ceil (length text) 64 → Reads text slice k
+  part_end l k e = let z : n ≡ k = omega (arith, g.left, g.few) in subst (Reads text slice) z (read-all l)
 
-  -- one range more
-  module _ (r : Range) (b : Begins (drop at text) r) (p : MemoryPermission) (e : r ≡ Is p) (slice' : List ℕ) (k : Keeps slice slice' n (permission_group p))
-      (at' : ℕ) (h : (at < at') × (at' ≤ length text) × Behind (length text) at at') where
-    more-stored : 3 * (n + 1) ≤ length slice' → take (3 * (n + 1)) slice' ≡ g.all ++ permission_group p
-    more-stored l =
-        let room : 3 * n + 3 ≤ length slice = omega (arith, k.size) in
-        let long : length (g.all ++ permission_group p) ≡ 3 * (n + 1) = length-append g.all (permission_group p) ∙ omega (arith, g.many, three p) in
-        let split : slice' ≡ (g.all ++ permission_group p) ++ drop (3 * n + length (permission_group p)) slice
-        = k.kept room ∙ sets-eq (permission_group p) slice (3 * n) (omega (arith, three p))
-        ∙ ap (λ (x : List ℕ). (x ++ permission_group p) ++ drop (3 * n + length (permission_group p)) slice) (g.stored (omega arith)) in
-        ap (take (3 * (n + 1))) split ∙ take_at (g.all ++ permission_group p) _ (3 * (n + 1)) long
+  -- the line at hand
+  module _ (head rest' : List ℕ) (s : rest ≡ head ++ rest') (size : length head ≡ min 64 (length rest)) (some : 0 < length rest) where
+    head-is : head ≡ take 64 rest
+    head-is =
+        sym (sym (take_min 64 rest) ∙ ap (λ (k : ℕ). take k rest) (sym size) ∙ ap (take (length head)) s ∙ take_at head rest' (length head) refl)
 
-    pub part-more : Part text slice' at' (n + 1)
-    part-more = record {
-      all = g.all ++ permission_group p;
-      says = g.says ∙ ap (and_later 0 (numbers g.all)) (subst (Begins (drop at text)) e b (n + 1))
-          ∙ also-both 0 (n + 1) g.all (permission_group p) (wish_from (n + 1 + 1) (lines_of (drop 64 (drop at text))))
-          ∙ ap (λ (bs : List ℕ). and_later 0 (numbers (g.all ++ permission_group p)) (wish_from (n + 1 + 1) (lines_of bs))) (sym (h.2 text refl));
-      many = length-append g.all (permission_group p) ∙ omega (arith, g.many, three p);
-      stored = more-stored;
-      few = omega (arith, g.few, h.0);
-      to = h.1;
-    }
+    tail-is : drop 64 rest ≡ rest'
+    tail-is = elim (dec_lt 63 (length rest)) [
+      | yes m ↦ ap (drop 64) s ∙ drop_at head rest' 64 (omega (arith, size))
+      | no m ↦ drop_of_length-le rest {i = 64} (omega arith) ∙ sym (no-length rest' (omega (arith, ap length s, length-append head rest', size)))
+    ]
+
+    -- as it is told
+    module _ (r : Option MemoryPermission) (h : Heads head r) (i : ℕ) (z : i ≡ n) where
+      pub part-broken : (e : ℕ) → ◌≡◌ {A = Result MemoryPermission ℕ} (Err e) (ok_or r (i + 1)) → wish_of text ≡ broken e
+      part-broken e q = go r h q
+        where
+          go : (r : Option MemoryPermission) → Heads head r → ◌≡◌ {A = Result MemoryPermission ℕ} (Err e) (ok_or r (i + 1)) → wish_of text ≡ broken e
+          go None h q =
+              let told : i + 1 ≡ e = cc in
+              let same : n + 1 ≡ e = omega arith in
+              g.says ∙ ap (and_later 0 (numbers g.all)) (h rest head-is (omega arith) (n + 1)) ∙ ap broken same
+          go (Some p) h q = absurd (let c : ◌≡◌ {A = ℕ} 0 1 = cc in omega arith)
+
+      -- one range more
+      module _ (p : MemoryPermission) (q : ◌≡◌ {A = Result MemoryPermission ℕ} (Ok p) (ok_or r (i + 1))) (slice' : List ℕ) (k : Keeps slice slice' i (permission_group p)) where
+        here : Heads head (Some p)
+        here = go r h q
+          where
+            go : (r : Option MemoryPermission) → Heads head r → ◌≡◌ {A = Result MemoryPermission ℕ} (Ok p) (ok_or r (i + 1)) → Heads head (Some p)
+            go None h q = absurd (let c : ◌≡◌ {A = ℕ} 0 1 = cc in omega arith)
+            go (Some v) h q = let same : v ≡ p = cc in subst (λ (x : MemoryPermission). Heads head (Some x)) same h
+
+        more-stored : 3 * (n + 1) ≤ length slice' → take (3 * (n + 1)) slice' ≡ g.all ++ permission_group p
+        more-stored l =
+            let room : 3 * i + 3 ≤ length slice = omega (arith, k.size) in
+            let long : length (g.all ++ permission_group p) ≡ 3 * (n + 1) = length-append g.all (permission_group p) ∙ omega (arith, g.many, three p) in
+            let split : slice' ≡ (g.all ++ permission_group p) ++ drop (3 * n + length (permission_group p)) slice
+            = k.kept room ∙ ap (λ (j : ℕ). sets slice (3 * j) (permission_group p)) z ∙ sets-eq (permission_group p) slice (3 * n) (omega (arith, three p))
+            ∙ ap (λ (x : List ℕ). (x ++ permission_group p) ++ drop (3 * n + length (permission_group p)) slice) (g.stored (omega arith)) in
+            ap (take (3 * (n + 1))) split ∙ take_at (g.all ++ permission_group p) _ (3 * (n + 1)) long
+
+        part-next : Part text slice' rest' (n + 1)
+        part-next = record {
+          all = g.all ++ permission_group p;
+          says = g.says ∙ ap (and_later 0 (numbers g.all)) (here rest head-is (omega arith) (n + 1))
+              ∙ also-both 0 (n + 1) g.all (permission_group p) (wish_from (n + 1 + 1) (lines_of (drop 64 rest)))
+              ∙ ap (λ (bs : List ℕ). and_later 0 (numbers (g.all ++ permission_group p)) (wish_from (n + 1 + 1) (lines_of bs))) tail-is;
+          many = length-append g.all (permission_group p) ∙ omega (arith, g.many, three p);
+          stored = more-stored;
+          left = omega (arith, ap length tail-is, length-drop 64 rest, g.left);
+          few = omega (arith, g.few, g.left);
+        }
+
+        pub part-more : (m : ℕ) → m ≡ n + 1 → Part text slice' rest' m
+        part-more m e = rw e part-next
 
 -- ---- what is told of a reading
 
-module _ (text slice : List ℕ) (r : Reading) (n : ℕ) (w : ReadsWish text slice r) where
-  pub reads-ranges : r ≡ reading.Ranges n → Reads text slice n
-  reads-ranges e = subst (ReadsWish text slice) e w
-
-  pub reads-broken : r ≡ reading.Malformed n → wish_of text ≡ broken n
-  reads-broken e = subst (ReadsWish text slice) e w
-
-  pub first-none : r ≡ reading.Ranges n → 0 ≡ first_broken (wish_of text)
-  first-none e = sym (ap first_broken (reads-ranges e).says)
-
-  pub first_some : r ≡ reading.Malformed n → n ≡ first_broken (wish_of text)
-  first_some e = sym (ap first_broken (reads-broken e))
+pub first-is : (text slice : List ℕ) (r : Result ℕ ℕ) → ReadsWish text slice r → result_err r ≡ first_broken (wish_of text)
+first-is text slice (Ok n) w = sym (ap first_broken w.says)
+first-is text slice (Err n) w = sym (ap first_broken w)

@@ -1,14 +1,14 @@
 -- Lines are written one after the other, as many as fit; those of a script, part by part.
-use Rattle.std.specs.Prelude.{if◌then◌else◌}
+use Rattle.std.specs.Prelude.{if◌then◌else◌, Option, None, Some, Result, Ok, Err}
+use Rattle.std.specs.Option.{ok_or, unwrap_or}
 use Prim.Native.Nat.{ℕ, zero, suc, ◌+◌, ◌-◌, ◌*◌, ◌/◌, ◌<◌, ◌≤◌}
-use mathlib.Core.Path.{◌≡◌, refl, sym, ap, ◌∙◌}
-use mathlib.Core.Bool.{Bool, true, false, true≢false, not}
+use mathlib.Core.Path.{◌≡◌, refl, sym, ap, ◌∙◌, subst}
+use mathlib.Core.Bool.{Bool, true, false, not}
 use mathlib.Core.List.{List, [], ◌∷◌, ◌++◌, map, append-nil, append_assoc, map-append}
-use native.Mathlib.Numerals.{add-one}
 use native.Mathlib.Omega.{arith}
-use lib.ListN.{length, take, drop, length-append}
+use lib.ListN.{length, take, length-append}
 use lib.Seq.{sets, length-sets}
-use borrow.Author.Tests.{le-leb, lt-leb, lt-ltb, le-ltb, eq-eqb, ne_eqb, not-true, not-false}
+use borrow.Author.Tests.{le-leb, lt-leb, lt-ltb, le-ltb, eq-eqb, ne_eqb, not-true}
 use Rattle.definitions.specs.Tests.{◌=?◌}
 use Rattle.definitions.specs.Pages.{permission_group}
 use Rattle.definitions.specs.Questions.{refusal_number}
@@ -20,138 +20,116 @@ use Rattle.definitions.specs.declared.answer.Refusal.TheVariants.{NoCompartment,
 use Rattle.definitions.proofs.Bools.{and-false}
 use Rattle.definitions.proofs.UncoveredLaws.{each_append}
 use Rattle.columns.specs.Columns as columns
-use Rattle.columns.specs.declared.Put.{Put}
-use Rattle.columns.specs.declared.Put.TheVariants.{At, NoRoom}
 use Rattle.columns.proofs.Room.{sets_behind}
 use Rattle.lines.proofs.Putting.{put-at, put-none, none-whole, text, whole-lines}
-use Rattle.planner.specs.declared.wishes.Written.{Written}
 use Rattle.planner.specs.declared.PlanCursor.{PlanCursor}
 use Rattle.planner.specs.Cursor.{plan_from}
 use Rattle.planner.specs.Reading.{Reads}
-use Rattle.planner.specs.Writing.{Wrote, Adds, wrote_as, other_lines, allow_lines, add_lines, PrintsLines}
+use Rattle.planner.specs.Writing.{Wrote, Stopped, Adds, other_lines, allow_lines, add_lines, PrintsLines}
 use Rattle.planner.proofs.Cursors.{length-wanted}
 
 -- ---- lines that are written
 
-pub none_written : (out : List ℕ) → Wrote [] out out (record { at = 0; full = false })
-none_written out = record {
-  done = [];
-  rest = [];
-  split = refl;
-  text = refl;
-  end = refl;
-  fits = omega arith;
-  whole = λ e. refl;
-  stuck = λ e. absurd (true≢false (sym e));
-}
+pub none_written : (out : List ℕ) → Wrote [] out out 0
+none_written out = record { text = refl; end = refl; fits = omega arith }
 
--- to the end: as many as fit
-pub all-written : (ls : List (List ℕ)) (before after : List ℕ) (w : Written) → Wrote ls before after w → PrintsLines ls before after w.at
-unfolding whole_lines
-all-written ls before after w g =
-    let stops : whole_lines (length before - w.at) g.rest ≡ [] = go w.full refl in
-    let all : whole_lines (length before) ls ≡ g.done =
-    ap (whole_lines (length before)) g.split
-    ∙ whole-lines (length before) g.done g.rest (omega (arith, g.end, g.fits)) (ap (λ (n : ℕ). whole_lines (length before - n) g.rest) (sym g.end) ∙ stops) in
-    record { slice = g.text ∙ ap (λ (x : List (List ℕ)). sets before 0 (text x)) (sym all); long = g.end ∙ ap (λ (x : List (List ℕ)). length (text x)) (sym all); fits = g.fits }
-  where
-    go : (b : Bool) → w.full ≡ b → whole_lines (length before - w.at) g.rest ≡ []
-    go true e = ap (whole_lines (length before - w.at)) (sym (append-nil g.rest)) ∙ g.stuck e []
-    go false e = ap (whole_lines (length before - w.at)) (g.whole e)
+-- to the end, or as many as fit
+module _ (ls : List (List ℕ)) (before after : List ℕ) (at : ℕ) where
+  prints : (done rest : List (List ℕ)) → ls ≡ done ++ rest → Wrote done before after at → whole_lines (length before - at) rest ≡ [] → PrintsLines ls before after at
+  prints done rest split w stops =
+      let all : whole_lines (length before) ls ≡ done =
+      ap (whole_lines (length before)) split
+      ∙ whole-lines (length before) done rest (omega (arith, w.end, w.fits)) (ap (λ (n : ℕ). whole_lines (length before - n) rest) (sym w.end) ∙ stops) in
+      record { slice = w.text ∙ ap (λ (x : List (List ℕ)). sets before 0 (text x)) (sym all); long = w.end ∙ ap (λ (x : List (List ℕ)). length (text x)) (sym all); fits = w.fits }
+
+  pub all-written : Wrote ls before after at → PrintsLines ls before after at
+  unfolding whole_lines
+  all-written w = prints ls [] (sym (append-nil ls)) w refl
+
+  pub some-written : Stopped ls before after at → PrintsLines ls before after at
+  some-written s = prints s.done s.rest s.split s.written (ap (whole_lines (length before - at)) (sym (append-nil s.rest)) ∙ s.stuck [])
 
 -- ---- lines more
 
-module _ (now : List ℕ) (w : Written) where
-  pub adds_none : Adds [] now now w w
-  adds_none = record { adds = λ ls before g. rw (append-nil ls) g }
+pub adds_none : (now : List ℕ) (at : ℕ) → Adds [] now now at (Ok at)
+adds_none now at = record { adds = λ ls before g. rw (append-nil ls) g }
 
-  -- once one did not fit, no other is tried
-  pub adds-full : (new : List (List ℕ)) → w.full ≡ true → Adds new now now w w
-  adds-full new e = record {
-    adds = λ ls before g. record {
-      done = g.done;
-      rest = g.rest ++ new;
-      split = ap (λ (x : List (List ℕ)). x ++ new) g.split ∙ append_assoc g.done g.rest new;
-      text = g.text;
-      end = g.end;
-      fits = g.fits;
-      whole = λ d. absurd (true≢false (sym e ∙ d));
-      stuck = λ d more. ap (whole_lines (length before - w.at)) (append_assoc g.rest new more) ∙ g.stuck d (new ++ more);
-    };
+module _ (xs ys : List (List ℕ)) (now mid : List ℕ) (at : ℕ) where
+  pub adds-both : (next : List ℕ) (v : ℕ) (r : Result ℕ ℕ) → Adds xs now mid at (Ok v) → Adds ys mid next v r → Adds (xs ++ ys) now next at r
+  adds-both next v r a b = record {
+    adds = λ ls before g. rw (sym (append_assoc ls xs ys)) (b.adds (ls ++ xs) before (a.adds ls before g));
   }
 
-pub adds-both : (xs ys : List (List ℕ)) (now mid next : List ℕ) (w v r : Written) → Adds xs now mid w v → Adds ys mid next v r → Adds (xs ++ ys) now next w r
-adds-both xs ys now mid next w v r a b = record {
-  adds = λ ls before g. rw (sym (append_assoc ls xs ys)) (b.adds (ls ++ xs) before (a.adds ls before g));
-}
-
--- what is told of it
-module _ (w : Written) (put : Put) where
-  pub wrote_at : (k : ℕ) → put ≡ At k → record { at = k; full = false } ≡ wrote_as w put
-  wrote_at k e = ap (wrote_as w) (sym e)
-
-  pub wrote_none : put ≡ NoRoom → record { at = w.at; full = true } ≡ wrote_as w put
-  wrote_none e = ap (wrote_as w) (sym e)
+  -- once one did not fit, no other is tried
+  pub adds-stop : (v : ℕ) → Adds xs now mid at (Err v) → Adds (xs ++ ys) now mid at (Err v)
+  adds-stop v a = record {
+    adds = λ ls before g.
+        (let s = a.adds ls before g in
+        record {
+          done = s.done;
+          rest = s.rest ++ ys;
+          split = sym (append_assoc ls xs ys) ∙ ap (λ (x : List (List ℕ)). x ++ ys) s.split ∙ append_assoc s.done s.rest ys;
+          written = s.written;
+          stuck = λ more. ap (whole_lines (length before - v)) (append_assoc s.rest ys more) ∙ s.stuck (ys ++ more);
+        });
+  }
 
 -- a line is put, or does not fit
-module _ (line now next : List ℕ) (w : Written) (room : w.full ≡ false) where
-  one_more : (put : Put) → columns.Wrote w.at line now put next → Adds (line ∷ []) now next w (wrote_as w put)
-  one_more (At k) p =
-      let q = put-at w.at line now next (At k) p k refl in
+module _ (line now next : List ℕ) (at : ℕ) where
+  size-kept : (ls : List (List ℕ)) (before : List ℕ) → Wrote ls before now at → length now ≡ length before
+  size-kept ls before g = ap length g.text ∙ length-sets before 0 (text ls)
+
+  line-put : (put : Option ℕ) → columns.Wrote at line now put next → (k : ℕ) → put ≡ Some k → Adds (line ∷ []) now next at (Ok k)
+  line-put put p k e =
+      let q = put-at at line now next put p k e in
       record {
         adds = λ ls before g.
-            (let size : length now ≡ length before = ap length g.text ∙ length-sets before 0 (text g.done) in
-            let z : 0 + w.at ≡ w.at = omega arith in
-            let behind : sets (sets before 0 (text g.done)) w.at line ≡ sets before 0 (text g.done ++ line)
-            = rw z at (sets_behind 0 w.at (text g.done) line before (sym g.end)) in
-            let bytes : text (g.done ++ (line ∷ [])) ≡ text g.done ++ line
-            = each_append (λ l. l) g.done (line ∷ []) ∙ ap (λ (x : List ℕ). text g.done ++ x) (append-nil line) in
+            (let z : 0 + at ≡ at = omega arith in
+            let behind : sets (sets before 0 (text ls)) at line ≡ sets before 0 (text ls ++ line)
+            = rw z at (sets_behind 0 at (text ls) line before (sym g.end)) in
+            let bytes : text (ls ++ (line ∷ [])) ≡ text ls ++ line
+            = each_append (λ l. l) ls (line ∷ []) ∙ ap (λ (x : List ℕ). text ls ++ x) (append-nil line) in
             record {
-              done = g.done ++ (line ∷ []);
-              rest = [];
-              split = ap (λ (x : List (List ℕ)). x ++ (line ∷ [])) (g.split ∙ ap (λ (x : List (List ℕ)). g.done ++ x) (g.whole room) ∙ append-nil g.done)
-                  ∙ sym (append-nil (g.done ++ (line ∷ [])));
-              text = q.2 ∙ ap (λ (x : List ℕ). sets x w.at line) g.text
-                  ∙ behind ∙ ap (sets before 0) (sym bytes);
-              end = omega (arith, q.1, g.end, ap length bytes, length-append (text g.done) line);
-              fits = omega (arith, q.0, q.1, size);
-              whole = λ e. refl;
-              stuck = λ e. absurd (true≢false (sym e));
-            });
-      }
-  one_more NoRoom p =
-      let q = put-none w.at line now next NoRoom p refl in
-      record {
-        adds = λ ls before g.
-            (let size : length now ≡ length before = ap length g.text ∙ length-sets before 0 (text g.done) in
-            record {
-              done = g.done;
-              rest = line ∷ [];
-              split = ap (λ (x : List (List ℕ)). x ++ (line ∷ [])) (g.split ∙ ap (λ (x : List (List ℕ)). g.done ++ x) (g.whole room) ∙ append-nil g.done);
-              text = q.1 ∙ g.text;
-              end = g.end;
-              fits = g.fits;
-              whole = λ e. absurd (true≢false e);
-              stuck = λ e more. none-whole (length before - w.at) line more (omega (arith, q.0, size));
+              text = q.2 ∙ ap (λ (x : List ℕ). sets x at line) g.text ∙ behind ∙ ap (sets before 0) (sym bytes);
+              end = omega (arith, q.1, g.end, ap length bytes, length-append (text ls) line);
+              fits = omega (arith, q.0, q.1, size-kept ls before g);
             });
       }
 
-  pub line-more : (put : Put) (r : Written) → columns.Wrote w.at line now put next → r ≡ wrote_as w put → Adds (line ∷ []) now next w r
-  line-more put r p e = rw e (one_more put p)
+  line-full : (put : Option ℕ) → columns.Wrote at line now put next → put ≡ None → Adds (line ∷ []) now next at (Err at)
+  line-full put p e =
+      let q = put-none at line now next put p e in
+      record {
+        adds = λ ls before g. record {
+          done = ls;
+          rest = line ∷ [];
+          split = refl;
+          written = rw q.1 g;
+          stuck = λ more. none-whole (length before - at) line more (omega (arith, q.0, g.fits, size-kept ls before g));
+        };
+      }
+
+  pub line-more : (put : Option ℕ) → columns.Wrote at line now put next → (r : Result ℕ ℕ) → r ≡ ok_or put at → Adds (line ∷ []) now next at r
+  line-more (Some k) p r e = rw e (line-put (Some k) p k refl)
+  line-more None p r e = rw e (line-full None p refl)
 
 -- ---- the parts of a script
 
--- one compartment more
-besides-more : (k i n : ℕ) → besides k i (suc n) ≡ besides k i n ++ besides k (i + n) 1
+-- some compartments, and others behind them
+besides-both : (k i m n : ℕ) → besides k i (m + n) ≡ besides k i m ++ besides k (i + m) n
 unfolding besides
-besides-more k i zero = let z : i + 0 ≡ i = omega arith in rw z
-besides-more k i (suc n) =
-    let z : suc i + n ≡ i + suc n = omega arith in
-    go (i =? k) (besides-more k (suc i) n ∙ ap (λ (j : ℕ). besides k (suc i) n ++ besides k j 1) z)
+besides-both k i zero n =
+    let y : 0 + n ≡ n = omega arith in
+    let z : i + 0 ≡ i = omega arith in
+    ap (besides k i) y ∙ ap (λ (j : ℕ). besides k j n) (sym z)
+besides-both k i (suc m) n =
+    let y : suc m + n ≡ suc (m + n) = omega arith in
+    let z : suc i + m ≡ i + suc m = omega arith in
+    ap (besides k i) y ∙ go (i =? k) (besides-both k (suc i) m n ∙ ap (λ (j : ℕ). besides k (suc i) m ++ besides k j n) z)
   where
-    go : (b : Bool) → besides k (suc i) (suc n) ≡ besides k (suc i) n ++ besides k (i + suc n) 1
-        → (if b then besides k (suc i) (suc n) else i ∷ besides k (suc i) (suc n))
-        ≡ (if b then besides k (suc i) n else i ∷ besides k (suc i) n) ++ besides k (i + suc n) 1
+    go : (b : Bool) → besides k (suc i) (m + n) ≡ besides k (suc i) m ++ besides k (i + suc m) n
+        → (if b then besides k (suc i) (m + n) else i ∷ besides k (suc i) (m + n))
+        ≡ (if b then besides k (suc i) m else i ∷ besides k (suc i) m) ++ besides k (i + suc m) n
     go true h = h
     go false h = ap (λ (l : List ℕ). i ∷ l) h
 
@@ -160,12 +138,27 @@ module _ (k allowance : ℕ) where
   unfolding other_lines besides
   others-none = refl
 
-  pub others-more : (j : ℕ) → other_lines k 0 j allowance ++ other_lines k j 1 allowance ≡ other_lines k 0 (j + 1) allowance
+  others-both : (m n : ℕ) → other_lines k 0 m allowance ++ other_lines k m n allowance ≡ other_lines k 0 (m + n) allowance
   unfolding other_lines
-  others-more j =
-      let z : 0 + j ≡ j = omega arith in
-      sym (map-append (λ i. script_line 83 i (allowance ∷ [])) (besides k 0 j) (besides k j 1))
-      ∙ ap (map (λ i. script_line 83 i (allowance ∷ []))) (sym (rw z at (besides-more k 0 j)) ∙ ap (besides k 0) (sym (add-one j)))
+  others-both m n =
+      let z : 0 + m ≡ m = omega arith in
+      sym (map-append (λ i. script_line 83 i (allowance ∷ [])) (besides k 0 m) (besides k m n))
+      ∙ ap (map (λ i. script_line 83 i (allowance ∷ []))) (sym (besides-both k 0 m n ∙ ap (λ (j : ℕ). besides k 0 m ++ besides k j n) z))
+
+  -- compartment j's line is put, or does not fit
+  module _ (j : ℕ) (now mid next : List ℕ) (at v : ℕ) (r : Result ℕ ℕ) (a : Adds (other_lines k 0 j allowance) now mid at (Ok v))
+      (b : Adds (other_lines k j 1 allowance) mid next v r) where
+    pub others-more : Adds (other_lines k 0 (j + 1) allowance) now next at r
+    others-more =
+        subst (λ (ls : List (List ℕ)). Adds ls now next at r) (others-both j 1)
+        (adds-both (other_lines k 0 j allowance) (other_lines k j 1 allowance) now mid at next v r a b)
+
+    pub others-stop : j < 8 → (u : ℕ) → r ≡ Err u → Adds (other_lines k 0 8 allowance) now next at (Err u)
+    others-stop l u e =
+        let z : (j + 1) + (7 - j) ≡ 8 = omega arith in
+        subst (λ (ls : List (List ℕ)). Adds ls now next at (Err u)) (others-both (j + 1) (7 - j) ∙ ap (λ (n : ℕ). other_lines k 0 n allowance) z)
+        (adds-stop (other_lines k 0 (j + 1) allowance) (other_lines k (j + 1) (7 - j) allowance) now next at u
+        (subst (Adds (other_lines k 0 (j + 1) allowance) now next at) e others-more))
 
   pub other-same : (j : ℕ) → j ≡ k → other_lines k j 1 allowance ≡ []
   unfolding other_lines besides
@@ -196,66 +189,69 @@ module _ (k m : ℕ) where
       ∙ ap (λ (l : List (List ℕ)). l ++ (script_line 83 k (m ∷ []) ∷ [])) (map-lines (besides k 0 8) ((1024 - m) / 7)))
 
 -- some adds are written, and the others are still to come
-pub record Adding (k : ℕ) (ns : List ℕ) (c : PlanCursor) (before now : List ℕ) (w v : Written) : Type 0 where
+pub record Adding (k : ℕ) (ns : List ℕ) (c : PlanCursor) (before now : List ℕ) (at v : ℕ) : Type 0 where
   pub front : List MemoryPermission
   pub split : plan (wanted ns) ≡ front ++ plan_from ns c
-  pub adds : Adds (add_lines k front) before now w v
+  pub adds : Adds (add_lines k front) before now at (Ok v)
 
 module _ (k : ℕ) (ns : List ℕ) (c : PlanCursor) where
-  pub adding-start : (out : List ℕ) (w : Written) → plan_from ns c ≡ drop 0 (plan (wanted ns)) → Adding k ns c out out w w
+  pub adding-start : (out : List ℕ) (at : ℕ) → plan_from ns c ≡ plan (wanted ns) → Adding k ns c out out at at
   unfolding add_lines
-  adding-start out w e = record { front = []; split = sym e; adds = adds_none out w }
+  adding-start out at e = record { front = []; split = sym e; adds = adds_none out at }
 
-  module _ (before now : List ℕ) (w v : Written) (g : Adding k ns c before now w v) where
-    pub adding-end : plan_from ns c ≡ [] → Adds (add_lines k (plan (wanted ns))) before now w v
-    adding-end e =
-        let all : plan (wanted ns) ≡ g.front = g.split ∙ ap (λ (x : List MemoryPermission). g.front ++ x) e ∙ append-nil g.front in
-        rw all g.adds
+  module _ (before now : List ℕ) (at v : ℕ) (g : Adding k ns c before now at v) where
+    module _ (p : MemoryPermission) (d : PlanCursor) (next : List ℕ) (r : Result ℕ ℕ) (e : plan_from ns c ≡ p ∷ plan_from ns d)
+        (a : Adds (script_line 65 k (permission_group p) ∷ []) now next v r) where
+      more-split : plan (wanted ns) ≡ (g.front ++ (p ∷ [])) ++ plan_from ns d
+      more-split = g.split ∙ ap (λ (x : List MemoryPermission). g.front ++ x) e ∙ sym (append_assoc g.front (p ∷ []) (plan_from ns d))
 
-    pub adding-more : (p : MemoryPermission) (d : PlanCursor) (next : List ℕ) (r : Written) → plan_from ns c ≡ p ∷ plan_from ns d
-        → Adds (script_line 65 k (permission_group p) ∷ []) now next v r → Adding k ns d before next w r
-    unfolding add_lines
-    adding-more p d next r e a = record {
-      front = g.front ++ (p ∷ []);
-      split = g.split ∙ ap (λ (x : List MemoryPermission). g.front ++ x) e ∙ sym (append_assoc g.front (p ∷ []) (plan_from ns d));
-      adds = rw (map-append (λ w. script_line 65 k (permission_group w)) g.front (p ∷ []))
-          (adds-both (add_lines k g.front) (script_line 65 k (permission_group p) ∷ []) before now next w v r g.adds a);
-    }
+      more-adds : Adds (add_lines k (g.front ++ (p ∷ []))) before next at r
+      unfolding add_lines
+      more-adds =
+          rw (map-append (λ w. script_line 65 k (permission_group w)) g.front (p ∷ []))
+          (adds-both (add_lines k g.front) (script_line 65 k (permission_group p) ∷ []) before now at next v r g.adds a)
+
+      pub adding-more : (u : ℕ) → r ≡ Ok u → Adding k ns d before next at u
+      adding-more u h = record { front = g.front ++ (p ∷ []); split = more-split; adds = subst (Adds (add_lines k (g.front ++ (p ∷ []))) before next at) h more-adds }
+
+      pub adding-stop : (u : ℕ) → r ≡ Err u → Adds (add_lines k (plan (wanted ns))) before next at (Err u)
+      unfolding add_lines
+      adding-stop u h =
+          let stop : Adds (add_lines k (g.front ++ (p ∷ []))) before next at (Err u) = subst (Adds (add_lines k (g.front ++ (p ∷ []))) before next at) h more-adds in
+          rw (more-split, map-append (λ w. script_line 65 k (permission_group w)) (g.front ++ (p ∷ [])) (plan_from ns d))
+          (adds-stop (add_lines k (g.front ++ (p ∷ []))) (add_lines k (plan_from ns d)) before next at u stop)
 
 -- ---- whole answers
 
+-- what is added to nothing
+module _ (ls : List (List ℕ)) (out out' : List ℕ) (at : ℕ) where
+  pub prints-all : Adds ls out out' 0 (Ok at) → PrintsLines ls out out' at
+  prints-all a = all-written ls out out' at (a.adds [] out (none_written out))
+
+  pub prints-some : Adds ls out out' 0 (Err at) → PrintsLines ls out out' at
+  prints-some a = some-written ls out out' at (a.adds [] out (none_written out))
+
 -- one line by itself
-module _ (line out out' : List ℕ) (put : Put) (p : columns.Wrote 0 line out put out') where
-  abbrev unwritten : Written
-  unwritten = record { at = 0; full = false }
-
-  one_line : (b : Put) → put ≡ b → PrintsLines (line ∷ []) out out' (wrote_as unwritten b).at
-  one_line b e =
-      all-written (line ∷ []) out out' (wrote_as unwritten b)
-      ((line-more line out out' unwritten refl put (wrote_as unwritten b) p (ap (wrote_as unwritten) (sym e))).adds [] out (none_written out))
-
-  pub one-put : (k : ℕ) → put ≡ At k → PrintsLines (line ∷ []) out out' k
-  one-put k e = one_line (At k) e
-
-  pub none-put : put ≡ NoRoom → PrintsLines (line ∷ []) out out' 0
-  none-put e = one_line NoRoom e
+pub one-line : (line out out' : List ℕ) (put : Option ℕ) → columns.Wrote 0 line out put out' → (k : ℕ) → k ≡ unwrap_or put 0 → PrintsLines (line ∷ []) out out' k
+one-line line out out' (Some k) p n e = rw e (prints-all (line ∷ []) out out' k (line-more line out out' 0 (Some k) p (Ok k) refl))
+one-line line out out' None p n e = rw e (prints-some (line ∷ []) out out' 0 (line-more line out out' 0 None p (Err 0) refl))
 
 -- a script: first the allowances, then the adds
-pub script-lines : (k m : ℕ) (ns out mid out' : List ℕ) (v r : Written) → Adds (allow_lines k m) out mid (record { at = 0; full = false }) v
-    → Adds (add_lines k (plan (wanted ns))) mid out' v r → PrintsLines (plan_lines k m (wanted ns)) out out' r.at
-unfolding plan_lines allow_lines add_lines
-script-lines k m ns out mid out' v r a b =
-    all-written (plan_lines k m (wanted ns)) out out' r
-    ((adds-both (allow_lines k m) (add_lines k (plan (wanted ns))) out mid out' (record { at = 0; full = false }) v r a b).adds [] out (none_written out))
+module _ (k m : ℕ) (ns out mid out' : List ℕ) where
+  pub script-both : (v : ℕ) (r : Result ℕ ℕ) → Adds (allow_lines k m) out mid 0 (Ok v) → Adds (add_lines k (plan (wanted ns))) mid out' v r
+      → Adds (plan_lines k m (wanted ns)) out out' 0 r
+  unfolding plan_lines allow_lines add_lines
+  script-both v r a b = adds-both (allow_lines k m) (add_lines k (plan (wanted ns))) out mid 0 out' v r a b
 
--- what becomes of a wish
-module _ (k m : ℕ) (ns out out' : List ℕ) (n : ℕ) (b : Bool) (e : b ≡ can_wish m ns) where
-  pub wish-refused : not b ≡ true → PrintsLines (answer_columns (refusal_number NoScript) 0 ∷ []) out out' n → PrintsLines (wish_lines k m (wish ns)) out out' n
-  unfolding answer_line
-  wish-refused d p = rw (sym e ∙ not-true b d) p
+  pub script-stop : (v : ℕ) → Adds (allow_lines k m) out mid 0 (Err v) → Adds (plan_lines k m (wanted ns)) out mid 0 (Err v)
+  unfolding plan_lines allow_lines add_lines
+  script-stop v a = adds-stop (allow_lines k m) (add_lines k (plan (wanted ns))) out mid 0 v a
 
-  pub wish-taken : not b ≡ false → PrintsLines (plan_lines k m (wanted ns)) out out' n → PrintsLines (wish_lines k m (wish ns)) out out' n
-  wish-taken d p = rw (sym e ∙ not-false b d) p
+-- what becomes of a wish that cannot be
+pub wish-refused : (k m : ℕ) (ns out out' : List ℕ) (n : ℕ) (b : Bool) → b ≡ can_wish m ns → not b ≡ true
+    → PrintsLines (answer_columns (refusal_number NoScript) 0 ∷ []) out out' n → PrintsLines (wish_lines k m (wish ns)) out out' n
+unfolding answer_line
+wish-refused k m ns out out' n b e d p = rw (sym e ∙ not-true b d) p
 
 -- more ranges than any allowance
 too_many : (m : ℕ) (ns : List ℕ) (n : ℕ) → length ns ≡ 3 * n → m < n → can_wish m ns ≡ false

@@ -1,7 +1,9 @@
 -- Where the reading of a script's adds stands, and which are still to come.
-use Rattle.std.specs.Prelude.{ℕ, ◌+◌, ◌*◌, true, false, ◌&&◌, List, [], ◌∷◌, get_or, drop, if◌then◌else◌}
+use Rattle.std.specs.Prelude.{ℕ, ◌≡◌, ◌+◌, ◌*◌, true, false, List, [], ◌∷◌, get_or, drop, if◌then◌else◌, Option, None, Some}
 use Rattle.definitions.specs.Planner.{wanted, touches, plan_after}
 use Rattle.definitions.specs.declared.region.MemoryPermission.{MemoryPermission}
+use Rattle.planner.specs.declared.Before.{Before}
+use Rattle.planner.specs.declared.Before.TheVariants.{Done, Once, Same}
 use Rattle.planner.specs.declared.PlanCursor.{PlanCursor}
 
 -- range i of the list
@@ -13,16 +15,25 @@ wanted_at ns i = record {
 }
 
 -- behind the add at hand, of the range w
+abbrev pub step_on : ℕ → Before → MemoryPermission → PlanCursor
+step_on at Done w = record { at = at + 1; before = Once w }
+step_on at (Once p) w = if touches p w then record { at = at; before = Same } else record { at = at + 1; before = Once w }
+step_on at Same w = record { at = at + 1; before = Done }
+
 unfoldable pub after_one : PlanCursor → MemoryPermission → PlanCursor
-after_one c w =
-    if c.again then record { at = c.at + 1; again = false; once = false; last = w }
-    else if c.once && touches c.last w then record { at = c.at; again = true; once = false; last = c.last }
-    else record { at = c.at + 1; again = false; once = true; last = w }
+after_one c w = step_on c.at c.before w
 
 -- the adds still to come
-unfoldable pub ahead : PlanCursor → List MemoryPermission → List MemoryPermission
-ahead c [] = []
-ahead c (w ∷ ws) = if c.again then w ∷ plan_after w false ws else plan_after c.last c.once (w ∷ ws)
+abbrev pub ahead : Before → List MemoryPermission → List MemoryPermission
+ahead before [] = []
+ahead Done (w ∷ ws) = w ∷ plan_after w true ws
+ahead (Once p) (w ∷ ws) = plan_after p true (w ∷ ws)
+ahead Same (w ∷ ws) = w ∷ plan_after w false ws
 
 unfoldable pub plan_from : List ℕ → PlanCursor → List MemoryPermission
-plan_from ns c = ahead c (wanted (drop (3 * c.at) ns))
+plan_from ns c = ahead c.before (wanted (drop (3 * c.at) ns))
+
+-- the first of them is taken, if there is one
+abbrev pub Next : List ℕ → PlanCursor → PlanCursor → Option MemoryPermission → Type 0
+Next ns c d None = (plan_from ns c ≡ []) × (d ≡ c)
+Next ns c d (Some w) = plan_from ns c ≡ w ∷ plan_from ns d

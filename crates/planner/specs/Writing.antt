@@ -1,34 +1,33 @@
 -- What is written of a script's lines: as many as fit, from the slice's start on.
-use Rattle.std.specs.Prelude.{ℕ, ◌-◌, ◌≤◌, ◌≡◌, true, false, List, [], ◌∷◌, ◌++◌, map, length}
+use Rattle.std.specs.Prelude.{ℕ, ◌-◌, ◌≤◌, ◌≡◌, List, [], ◌∷◌, ◌++◌, map, length, Result, Ok, Err}
 use Rattle.std.proofs.lemmas.List.Edits.{sets}
 use Rattle.definitions.specs.Tests.{each}
 use Rattle.definitions.specs.Pages.{permission_group}
 use Rattle.definitions.specs.Script.{whole_lines, script_line}
 use Rattle.definitions.specs.Wishes.{besides, allowing, plan_text}
 use Rattle.definitions.specs.declared.region.MemoryPermission.{MemoryPermission}
-use Rattle.columns.specs.declared.Put.{Put}
-use Rattle.columns.specs.declared.Put.TheVariants.{At, NoRoom}
-use Rattle.planner.specs.declared.wishes.Written.{Written}
 
--- of these lines the first are written, into what was `before`; the rest, if any, because the next does not fit
-pub record Wrote (ls : List (List ℕ)) (before after : List ℕ) (w : Written) : Type 0 where
+-- these lines are written, into what was `before`, up to a place
+pub record Wrote (ls : List (List ℕ)) (before after : List ℕ) (at : ℕ) : Type 0 where
+  pub text : after ≡ sets before 0 (each (λ l. l) ls)
+  pub end : at ≡ length (each (λ l. l) ls)
+  pub fits : at ≤ length before
+
+-- the first of them are, because the next does not fit
+pub record Stopped (ls : List (List ℕ)) (before after : List ℕ) (at : ℕ) : Type 0 where
   pub done : List (List ℕ)
   pub rest : List (List ℕ)
   pub split : ls ≡ done ++ rest
-  pub text : after ≡ sets before 0 (each (λ l. l) done)
-  pub end : w.at ≡ length (each (λ l. l) done)
-  pub fits : w.at ≤ length before
-  pub whole : w.full ≡ false → rest ≡ []
-  pub stuck : w.full ≡ true → (more : List (List ℕ)) → whole_lines (length before - w.at) (rest ++ more) ≡ []
+  pub written : Wrote done before after at
+  pub stuck : (more : List (List ℕ)) → whole_lines (length before - at) (rest ++ more) ≡ []
 
--- new lines go behind whichever are written
-pub record Adds (new : List (List ℕ)) (now next : List ℕ) (w r : Written) : Type 0 where
-  pub adds : (ls : List (List ℕ)) (before : List ℕ) → Wrote ls before now w → Wrote (ls ++ new) before next r
+abbrev pub Writes : List (List ℕ) → List ℕ → List ℕ → Result ℕ ℕ → Type 0
+Writes ls before after (Ok at) = Wrote ls before after at
+Writes ls before after (Err at) = Stopped ls before after at
 
--- one line more, which was put up to a place or did not fit
-abbrev pub wrote_as : Written → Put → Written
-wrote_as w (At at) = record { at = at; full = false }
-wrote_as w NoRoom = record { at = w.at; full = true }
+-- new lines go behind those that are written
+pub record Adds (new : List (List ℕ)) (now next : List ℕ) (at : ℕ) (r : Result ℕ ℕ) : Type 0 where
+  pub adds : (ls : List (List ℕ)) (before : List ℕ) → Wrote ls before now at → Writes (ls ++ new) before next r
 
 -- the lines of a script, part by part: allowances of so many compartments from j on but k, all that set allowances, and the adds
 unfoldable pub other_lines : ℕ → ℕ → ℕ → ℕ → List (List ℕ)

@@ -8,20 +8,28 @@ ghost use Rattle.std.specs.Prelude.{◌≡◌, ◌&&◌, map, ◌+◌, ◌*◌, 
 ghost use Rattle.std.proofs.lemmas.List.Edits.{sets};
 ghost use Rattle.definitions.specs.Pages.{permission_group, Filled};
 ghost use Rattle.definitions.specs.Planner as planner;
-ghost use Rattle.planner.specs.Cursor.{wanted_at, after_one, plan_from};
+ghost use Rattle.planner.specs.Cursor.{wanted_at, after_one, plan_from, Next};
 ghost use Rattle.planner.specs.Page.{PlansPage};
 
 use definitions::{Answer, HostAddr, MemOps, MemoryPermission, Refusal};
 pub use wishes::{first_malformed, plan_script};
 
-// Where the reading of the adds stands: at which range; whether that is added a second time; whether the one before was added
-// once, and which that was.
+// What the add before the one at hand was.
+#[derive(Clone, Copy)]
+pub(crate) enum Before {
+    // none, or a range's second
+    Done,
+    // a range's first
+    Once(MemoryPermission),
+    // the first of the range at hand
+    Same,
+}
+
+// Where the reading of the adds stands: at which range, and behind which add.
 #[derive(Clone, Copy)]
 pub(crate) struct PlanCursor {
     pub(crate) at: usize,
-    pub(crate) again: bool,
-    pub(crate) once: bool,
-    pub(crate) last: MemoryPermission,
+    pub(crate) before: Before,
 }
 
 // Range i of the list.
@@ -43,29 +51,15 @@ fn put(out: &mut [u64], i: usize, p: MemoryPermission)
     ensures { out.new ≡ sets out.old (3 * i) (permission_group p) }
 {
     let b = 3 * i;
-    out[b] = p.start.0;
-    out[b + 1] = p.end.0;
-    out[b + 2] = p.ops.0;
+    out[b..b + 3].copy_from_slice(&[p.start.0, p.end.0, p.ops.0]);
 }
 
 // Does it touch the one before with equal rights?
+#[tactic(auto, using(std::proofs::lemmas::Bool::Decides::nat_tests), unfolding(definitions::specs::Planner::touches))]
 fn touches(p: MemoryPermission, w: MemoryPermission) -> bool
     ensures { result ≡ planner.touches p w }
 {
-    if p.end.0 != w.start.0 {
-        return false;
-    }
-    p.ops.0 == w.ops.0
-}
-
-// Is the range added twice?
-fn repeats(once: bool, p: MemoryPermission, w: MemoryPermission) -> bool
-    ensures { result ≡ (once && planner.touches p w) }
-{
-    if once {
-        return touches(p, w);
-    }
-    false
+    p.end == w.start && p.ops.0 == w.ops.0
 }
 
 // Can a script give these ranges?
@@ -74,20 +68,12 @@ fn can_be(allowance: u64, wanted: &[u64]) -> bool
 {
     let n = wanted.len() / 3;
     let mut lo = 0;
-    let mut i: usize = 0;
-    while i < n {
+    for i in 0..n {
         let p = load(wanted, i);
-        if p.start.0 < lo {
-            return false;
-        }
-        if p.end.0 <= p.start.0 {
-            return false;
-        }
-        if p.ops.0 >= 64 {
+        if p.start.0 < lo || p.end.0 <= p.start.0 || p.ops.0 >= 64 {
             return false;
         }
         lo = p.end.0;
-        i += 1;
     }
     n as u64 <= allowance
 }
@@ -97,39 +83,38 @@ fn can_be(allowance: u64, wanted: &[u64]) -> bool
 fn can_wish(allowance: u64, wanted: &[u64]) -> bool
     ensures { result ≡ planner.can_wish allowance wanted.now }
 {
-    if wanted.len() % 3 != 0 {
-        return false;
-    }
-    can_be(allowance, wanted)
+    wanted.len() % 3 == 0 && can_be(allowance, wanted)
 }
 
-// Behind the add at hand, of the range w.
-fn after(c: PlanCursor, w: MemoryPermission) -> PlanCursor
-    requires { c.at + 1 ≤ 18446744073709551615 }
-    ensures { result ≡ after_one c w }
-{
-    if c.again {
-        return PlanCursor {
-            at: c.at + 1,
-            again: false,
-            once: false,
-            last: w,
+impl PlanCursor {
+    pub(crate) const START: PlanCursor = PlanCursor {
+        at: 0,
+        before: Before::Done,
+    };
+
+    // Behind the add at hand, of the range w.
+    fn after(self, w: MemoryPermission) -> PlanCursor
+        requires { self.at + 1 ≤ 18446744073709551615 }
+        ensures { result ≡ after_one self w }
+    {
+        let (at, before) = match self.before {
+            Before::Once(p) if touches(p, w) => (self.at, Before::Same),
+            Before::Same => (self.at + 1, Before::Done),
+            _ => (self.at + 1, Before::Once(w)),
         };
+        PlanCursor { at, before }
     }
-    let last = c.last;
-    if repeats(c.once, last, w) {
-        return PlanCursor {
-            at: c.at,
-            again: true,
-            once: false,
-            last,
-        };
-    }
-    PlanCursor {
-        at: c.at + 1,
-        again: false,
-        once: true,
-        last: w,
+
+    // The add at hand, if there is one; the cursor goes behind it.
+    pub(crate) fn next(&mut self, wanted: &[u64]) -> Option<MemoryPermission>
+        ensures { Next wanted.now self.old self.new result }
+    {
+        if self.at >= wanted.len() / 3 {
+            return None;
+        }
+        let w = load(wanted, self.at);
+        *self = self.after(w);
+        Some(w)
     }
 }
 
@@ -137,27 +122,11 @@ fn after(c: PlanCursor, w: MemoryPermission) -> PlanCursor
 fn skip(wanted: &[u64], k: usize) -> PlanCursor
     ensures { plan_from wanted.now result ≡ drop k (planner.plan (planner.wanted wanted.now)) }
 {
-    let n = wanted.len() / 3;
-    let none = MemoryPermission {
-        start: HostAddr(0),
-        end: HostAddr(0),
-        ops: MemOps(0),
-    };
-    let mut c = PlanCursor {
-        at: 0,
-        again: false,
-        once: false,
-        last: none,
-    };
-    let mut i: usize = 0;
-    while i < k {
-        let at = c.at;
-        if at >= n {
+    let mut c = PlanCursor::START;
+    for _ in 0..k {
+        if c.next(wanted).is_none() {
             return c;
         }
-        let w = load(wanted, at);
-        c = after(c, w);
-        i += 1;
     }
     c
 }
@@ -166,21 +135,15 @@ fn skip(wanted: &[u64], k: usize) -> PlanCursor
 fn fill(wanted: &[u64], from: PlanCursor, out: &mut [u64]) -> usize
     ensures { Filled 3 (map permission_group (plan_from wanted.now from)) 0 out.old out.new result }
 {
-    let n = wanted.len() / 3;
     let room = out.len() / 3;
     let mut c = from;
-    let mut i: usize = 0;
-    while i < room {
-        let at = c.at;
-        if at >= n {
+    for i in 0..room {
+        let Some(w) = c.next(wanted) else {
             return i;
-        }
-        let w = load(wanted, at);
+        };
         put(out, i, w);
-        c = after(c, w);
-        i += 1;
     }
-    i
+    room
 }
 
 // A page from add `from` on of the script that gives the list, under so many records: as many groups of three numbers as the
@@ -189,9 +152,9 @@ pub fn plan(allowance: u64, wanted: &[u64], from: usize, out: &mut [u64]) -> Ans
     ensures { PlansPage allowance wanted.now from out.old out.new result }
 {
     if !can_wish(allowance, wanted) {
-        return Answer::Refused(Refusal::NoScript);
+        return Err(Refusal::NoScript);
     }
     let c = skip(wanted, from);
     let n = fill(wanted, c, out);
-    Answer::Accepted(n as u64)
+    Ok(n as u64)
 }

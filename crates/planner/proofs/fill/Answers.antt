@@ -1,35 +1,18 @@
-use Rattle.definitions.specs.Pages.{permission_group}
-use Rattle.planner.proofs.Cursors.{plan-end, step_is}
-use Rattle.definitions.proofs.Fills.{three, walk_start, walk_kept, walk-fits, walk-short, walk-full, walk_more}
+use Prim.Native.Nat.{ℕ, ◌/◌}
+use mathlib.Core.Path.{◌≡◌, subst}
+use mathlib.Core.List.{map}
+use lib.ListN.{length}
 use native.Mathlib.Omega.{arith}
+use Rattle.definitions.specs.Pages.{permission_group, Filled}
+use Rattle.planner.specs.Cursor.{plan_from}
+use Rattle.definitions.proofs.Fills.{three, walk-short, walk-full, walk_more}
 use Rattle.planner.proofs.fill.Goals as goal
 
-pub loop-i-init : goal.loop-i-init
-loop-i-init c = walk_start 3 permission_group three
-
-pub shape_of-out-then-at-n : goal.shape_of-out-then-at-n
-shape_of-out-then-at-n c = walk_kept 3 permission_group three c.loop-i.invariant
-
-pub returns-then-at-n : goal.returns-then-at-n
-returns-then-at-n c = walk-short 3 permission_group three c.loop-i.invariant (plan-end _ c.loop-i.c c.if-at-n.true)
-
-pub load-w-requires : goal.load-w-requires
-load-w-requires c = omega (arith, c.if-at-n.false)
-
-pub put-requires : goal.put-requires
-put-requires c = walk-fits 3 permission_group three c.loop-i.invariant c.loop-i-test.true
-
-pub after-c-requires : goal.after-c-requires
-after-c-requires c = omega (arith, c.if-at-n.false)
-
-pub overflow_add-i : goal.overflow_add-i
-overflow_add-i c = omega (arith, c.loop-i.invariant.room)
+pub returns-in_default : goal.returns-in_default
+returns-in_default c = walk-short 3 permission_group three c.loop-i.invariant (c.in_default.ensures).0
 
 pub loop-i-preserved : goal.loop-i-preserved
-loop-i-preserved c = walk_more 3 permission_group three c.loop-i.invariant (step_is c.args.wanted.now c.loop-i.c c.after-c.result c.load-w.result (omega (arith, c.if-at-n.false)) c.load-w.ensures c.after-c.ensures) c.loop-i-test.true c.put.ensures
-
-pub shape_of-out : goal.shape_of-out
-shape_of-out c = walk_kept 3 permission_group three c.loop-i.invariant
+loop-i-preserved c = walk_more 3 permission_group three c.loop-i.invariant c.in-Some.ensures c.loop-i-test.true c.put.ensures
 
 pub returns : goal.returns
-returns c = walk-full 3 permission_group three c.loop-i.invariant (omega arith)
+returns c = let e : c.loop-i.i ≡ length c.args.out.now / 3 = omega arith in subst (λ (n : ℕ). Filled 3 (map permission_group (plan_from c.args.wanted.now c.args.from)) 0 c.args.out.now c.loop-i.out n) e (walk-full 3 permission_group three c.loop-i.invariant e)

@@ -1,24 +1,12 @@
-use Rattle.planner.proofs.Cursors.{plan-start, skip_step, skip-end, skip-done}
 use native.Mathlib.Omega.{arith}
+use Rattle.planner.proofs.Cursors.{plan-start, skip_step, skip-end, went, stopped}
 use Rattle.planner.proofs.skip.Goals as goal
 
-pub loop-i-init : goal.loop-i-init
-loop-i-init c = (omega arith, plan-start _ _)
+pub loop-init : goal.loop-init
+loop-init c = plan-start _
 
-pub returns-then-at-n : goal.returns-then-at-n
-returns-then-at-n c = skip-end c.args.wanted.now c.loop-i.c c.loop-i.i c.args.k _ c.if-at-n.true (omega arith) c.loop-i.invariant.1
+pub returns-then-is_none : goal.returns-then-is_none
+returns-then-is_none c = skip-end c.args.wanted.now c.loop.c c.next.new.self c.loop.counter c.args.k _ (stopped c.args.wanted.now c.loop.c c.next.new.self c.next.result c.next.ensures c.if-is_none.ensures) (omega arith) c.loop.invariant
 
-pub load-w-requires : goal.load-w-requires
-load-w-requires c = omega (arith, c.if-at-n.false)
-
-pub after-c-requires : goal.after-c-requires
-after-c-requires c = omega (arith, c.if-at-n.false)
-
-pub overflow_add-i : goal.overflow_add-i
-overflow_add-i c = omega arith
-
-pub loop-i-preserved : goal.loop-i-preserved
-loop-i-preserved c = (omega arith, skip_step c.args.wanted.now c.loop-i.c c.after-c.result c.load-w.result c.loop-i.i _ (omega (arith, c.if-at-n.false)) c.load-w.ensures c.after-c.ensures c.loop-i.invariant.1)
-
-pub returns : goal.returns
-returns c = skip-done _ c.loop-i.c c.loop-i.i c.args.k _ (omega arith) c.loop-i.invariant.1
+pub loop-preserved : goal.loop-preserved
+loop-preserved c = let s = went c.args.wanted.now c.loop.c c.next.new.self c.next.result c.next.ensures c.if-is_none.ensures in skip_step c.args.wanted.now c.loop.c c.next.new.self s.0 c.loop.counter _ s.1 c.loop.invariant

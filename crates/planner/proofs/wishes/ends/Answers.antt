@@ -1,9 +1,11 @@
+use mathlib.Core.Path.{sym, ◌∙◌}
+use borrow.Author.Tests.{eqb-true, eqb-false}
 use native.Mathlib.Omega.{arith}
 use Rattle.planner.proofs.ReadLaws.{ends-none, ends-byte}
 use Rattle.planner.proofs.wishes.ends.Goals as goal
 
-pub returns-then-at-text : goal.returns-then-at-text
-returns-then-at-text c = ends-none c.args.text.now c.args.at c.if-at-text.true
+pub returns-then-is_empty : goal.returns-then-is_empty
+returns-then-is_empty c = c.if-is_empty.true ∙ ends-none c.args.rest.now (eqb-true _ 0 (sym c.is_empty.ensures ∙ c.if-is_empty.true))
 
-pub returns : goal.returns
-returns c = ends-byte c.args.text.now c.args.at (omega (arith, c.requires, c.if-at-text.false))
+pub returns-else-is_empty : goal.returns-else-is_empty
+returns-else-is_empty c = let some = eqb-false _ 0 (sym c.is_empty.ensures ∙ c.if-is_empty.false) in ends-byte c.args.rest.now (omega (arith, some))

@@ -1,5 +1,8 @@
-use Rattle.planner.proofs.WriteLaws.{script-lines}
+use Rattle.planner.proofs.WriteLaws.{prints-all, prints-some}
 use Rattle.planner.proofs.wishes.put_script.Goals as goal
 
-pub returns : goal.returns
-returns c = script-lines c.args.compartment c.args.allowance c.args.wanted.now c.args.out.now c.allow_lines-allowed.new.out c.add_lines-w.new.out c.allow_lines-allowed.result c.add_lines-w.result c.allow_lines-allowed.ensures c.add_lines-w.ensures
+pub returns-in-Ok : goal.returns-in-Ok
+returns-in-Ok c = prints-all _ _ _ _ c.in-Ok.ensures
+
+pub returns-in-Err : goal.returns-in-Err
+returns-in-Err c = prints-some _ _ _ _ c.in-Err.ensures

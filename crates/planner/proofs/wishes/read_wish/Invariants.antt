@@ -1,11 +1,15 @@
-use Prim.Native.Nat.{◌-◌}
 use mathlib.Core.Path.{◌≡◌}
 use lib.ListN.{length}
+use Rattle.std.specs.Iterator.Adapters.{enumerate_source, enumerate_count}
+use Rattle.std.specs.Slice.Iter.{chunks_rest, chunks_size}
 use Rattle.planner.proofs.ReadLaws.{Part}
 use Rattle.planner.proofs.wishes.read_wish.Given as goal
 
-abbrev pub invariant-loop-at : goal.invariant-loop-at
-invariant-loop-at l = (length l.wish ≡ length l.initial.wish) × Part l.text l.wish l.at l.n
-
-abbrev pub decreases-loop-at : goal.decreases-loop-at
-decreases-loop-at l = length l.text - l.at
+abbrev pub invariant-loop-n : goal.invariant-loop-n
+invariant-loop-n l = record {
+  can_next : (goal.iterator-loop-n).can_next l.n-iterator;
+  is_finite : (goal.iterator-loop-n).is_finite l.n-iterator;
+  size : length l.wish ≡ length l.initial.wish;
+  chunks : chunks_size (enumerate_source l.n-iterator) ≡ 64;
+  part : Part l.text l.wish (chunks_rest (enumerate_source l.n-iterator)) (enumerate_count l.n-iterator);
+}
