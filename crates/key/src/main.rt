@@ -1,118 +1,107 @@
 // The marking key: a script from standard input, its output to standard output, in bounded memory.
 #![tactic(auto)]
 
-ghost use Rattle.capability_engine.specs.CompartmentGrown.{IsGrown};
+ghost use Rattle.std.specs.Prelude.{◌≤◌, length, IfSome};
+ghost use Rattle.key.specs.Stands.{Stands};
 
 use capability_engine::{POOL_LEN, Script, Tables};
-use std::io::{Read, Stdout};
+use std::io::{self, Read, Stdout};
 
-// A script as far as it has come, and whether all of its output could be written.
+// A script as far as it has come, with the tables and the arrays that are lent to each call on them: fixed memory, since there is
+// no heap.
 #[derive(Clone, Copy)]
-pub struct Going {
-    pub tables: Tables,
-    pub script: Script,
-    pub well: bool,
+struct Session {
+    words: [u64; POOL_LEN],
+    next: [usize; 1025],
+    links: [usize; 1024],
+    gens: [u64; 1024],
+    tables: Tables,
+    script: Script,
 }
 
-// A piece of the script goes in, and what it prints is written out.
-fn pump(
-    stdout: Stdout,
-    going: Going,
-    input: &[u8],
-    words: &mut [u64],
-    next: &mut [usize],
-    links: &mut [usize],
-    gens: &mut [u64],
-) -> Going
-    requires { IsGrown words.old next.old links.old gens.old going.tables }
-    ensures { IsGrown words.new next.new links.new gens.new result.tables }
-{
-    let mut out = [0u8; 65536];
-    let mut tables = going.tables;
-    let mut script = going.script;
-    let mut from = 0;
-    let mut turns = u64::MAX;
-    while turns > 0 {
-        let fed = tables.feed(
-            script,
-            &input[from..],
-            &mut out,
-            0,
+impl Session {
+    fn new() -> Option<Session>
+        ensures { IfSome result Stands }
+    {
+        let words = [0u64; POOL_LEN];
+        let next = [0usize; 1025];
+        let mut links = [0usize; 1024];
+        let mut gens = [0u64; 1024];
+        let tables = Tables::new(&words, &next, &mut links, &mut gens)?;
+        Some(Session {
             words,
             next,
             links,
             gens,
-        );
-        tables = fed.tables;
-        script = fed.script;
-        let p = script.progress;
-        let at = p.at;
-        if stdout.write_all(&out[..at]).is_err() {
-            return Going {
-                tables,
-                script,
-                well: false,
-            };
-        }
-        from += p.used;
-        if !p.full {
-            break;
-        }
-        turns -= 1;
+            tables,
+            script: Script::new(),
+        })
     }
-    Going {
-        tables,
-        script,
-        well: true,
+
+    // A piece of the script goes in, and its output, as far as it fits, into out.
+    fn feed(&mut self, input: &[u8], out: &mut [u8])
+        requires { Stands self.old }
+        ensures stands { Stands self.new }
+        ensures taken { self.new.script.progress.used ≤ length input.now }
+        ensures fits { self.new.script.progress.at ≤ length out.new }
+    {
+        self.tables.feed(
+            &mut self.script,
+            input,
+            out,
+            0,
+            &mut self.words,
+            &mut self.next,
+            &mut self.links,
+            &mut self.gens,
+        )
+    }
+
+    // A piece of the script goes in, and what it prints is written out.
+    fn pump(&mut self, stdout: Stdout, input: &[u8]) -> io::Result<()>
+        requires { Stands self.old }
+        ensures { Stands self.new }
+    {
+        let mut out = [0u8; 65536];
+        let mut from = 0;
+        for _ in 0..u64::MAX {
+            self.feed(&input[from..], &mut out);
+            let p = self.script.progress;
+            stdout.write_all(&out[..p.at])?;
+            from += p.used;
+            if !p.full {
+                break;
+            }
+        }
+        Ok(())
     }
 }
 
-fn main(rt: HostRuntime) {
-    let mut stdin = rt.stdin();
-    let stdout = rt.stdout();
-    let mut words = [0u64; POOL_LEN];
-    let mut next = [0usize; 1025];
-    let mut links = [0usize; 1024];
-    let mut gens = [0u64; 1024];
+// The script up to its end, or to where it cannot be read.
+fn run(session: &mut Session, mut stdin: impl Read + Drop, stdout: Stdout) -> io::Result<()>
+    requires { Stands session.old }
+{
     let mut input = [0u8; 65536];
-    let made = Tables::new(&words, &next, &mut links, &mut gens);
-    let tables = made.tables;
-    let script = Script::new();
-    let well = stdout.write_all(&lines::HEADING).is_ok();
-    let mut going = Going {
-        tables,
-        script,
-        well,
-    };
-    let mut turns = u64::MAX;
-    while turns > 0 {
-        if !going.well {
-            return;
-        }
+    stdout.write_all(&lines::HEADING)?;
+    for _ in 0..u64::MAX {
         let Ok(n) = stdin.read(&mut input) else {
             break;
         };
         if n == 0 {
             break;
         }
-        going = pump(
-            stdout,
-            going,
-            &input[..n],
-            &mut words,
-            &mut next,
-            &mut links,
-            &mut gens,
-        );
-        turns -= 1;
+        session.pump(stdout, &input[..n])?;
     }
-    // the last line may lack its end
-    let c = going.script;
-    let p = c.progress;
-    if p.len > 0 {
-        let end = [b'\n'; 1];
-        pump(
-            stdout, going, &end, &mut words, &mut next, &mut links, &mut gens,
-        );
+    if session.script.progress.len == 0 {
+        return Ok(());
+    }
+    // the last line lacks its end
+    session.pump(stdout, b"\n")
+}
+
+fn main(rt: HostRuntime) {
+    if let Some(mut session) = Session::new() {
+        // it ends where its output cannot be written
+        let _ = run(&mut session, rt.stdin(), rt.stdout());
     }
 }

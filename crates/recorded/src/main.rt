@@ -2,11 +2,10 @@
 // writes the script's output, and then the regions, segments and stream that the script leaves to each compartment.
 #![tactic(auto)]
 
-ghost use Rattle.std.specs.Prelude.{◌≤◌, length};
+ghost use Rattle.std.specs.Prelude.{◌<◌, ◌≤◌, length};
 ghost use Rattle.streams.specs.Counts.{IsPrefixLen};
 ghost use Rattle.definitions.specs.Pages.{record_len};
 
-use columns::Column;
 use definitions::RECORD_LEN;
 use std::io::{self, Stdin, Stdout};
 
@@ -15,17 +14,15 @@ fn end_of(text: &[u8], lines: usize) -> usize
     ensures { IsPrefixLen result text.now }
 {
     let mut left = lines;
-    let mut i = 0;
-    while i < text.len() {
+    for (i, b) in text.iter().enumerate() {
         if left == 0 {
             return i;
         }
-        i += 1;
-        if text[i - 1] == b'\n' {
+        if *b == b'\n' {
             left -= 1;
         }
     }
-    i
+    text.len()
 }
 
 // The output of a script: as many whole lines as the buffer takes.
@@ -42,31 +39,11 @@ fn write_line(stdout: Stdout, numbers: &[u64]) -> io::Result<()>
 {
     // all line ends at first: one is left behind the last number
     let mut line = [b'\n'; 21 * RECORD_LEN + 1];
-    let mut i = 0;
-    while i < numbers.len() {
-        columns::write(&mut line, 21 * i, 21, numbers[i]);
-        i += 1;
+    for (i, n) in numbers.iter().enumerate() {
+        columns::write(&mut line, 21 * i, 21, *n);
     }
-    let end = 21 * i + 1;
+    let end = 21 * numbers.len() + 1;
     stdout.write_all(&line[..end])
-}
-
-// So many groups of a width, a line each.
-fn write_groups(stdout: Stdout, numbers: &[u64], width: usize, many: u64) -> io::Result<()>
-    requires { width ≤ record_len }
-{
-    let mut from = 0;
-    let mut left = many;
-    while left > 0 {
-        if numbers.len() - from < width {
-            return Ok(());
-        }
-        let to = from + width;
-        write_line(stdout, &numbers[from..to])?;
-        from = to;
-        left -= 1;
-    }
-    Ok(())
 }
 
 // A list under a line that says whose it is, how wide and how long; nothing of one that is empty.
@@ -77,18 +54,17 @@ fn write_list(
     answer: u64,
     numbers: &[u64],
 ) -> io::Result<()>
-    requires { width ≤ record_len }
+    requires { (0 < width) × (width ≤ record_len) }
 {
-    if answer == 0 {
-        return Ok(());
-    }
     // more groups than the slice has numbers: a refusal
-    if answer > numbers.len() as u64 {
+    if answer == 0 || answer > numbers.len() as u64 {
         return Ok(());
     }
-    let head = [compartment, width as u64, answer];
-    write_line(stdout, &head)?;
-    write_groups(stdout, numbers, width, answer)
+    write_line(stdout, &[compartment, width as u64, answer])?;
+    for group in numbers.chunks_exact(width).take(answer as usize) {
+        write_line(stdout, group)?;
+    }
+    Ok(())
 }
 
 // The three lists of a compartment, each read at one go.
@@ -105,23 +81,18 @@ fn write_lists(stdout: Stdout, script: &[u8], compartment: u64) -> io::Result<()
 // All that is written of one script.
 fn replay(stdout: Stdout, script: &[u8]) -> io::Result<()> {
     write_output(stdout, script)?;
-    let mut k: u64 = 0;
-    while k < 8 {
+    for k in 0..8 {
         write_lists(stdout, script, k)?;
-        k += 1;
     }
     Ok(())
 }
 
-// How many bytes the next script has; malformed also where the input ends.
-fn next_size(stdin: &mut Stdin) -> io::Result<Column> {
+// How many bytes the next script has; none also where the input ends.
+fn next_size(stdin: &mut Stdin) -> io::Result<Option<u64>> {
     let mut header = [0u8; 22];
     let n = streams::read_full(stdin, &mut header)?;
-    if n < 22 {
-        return Ok(Column::Malformed);
-    }
-    if header[21] != b'\n' {
-        return Ok(Column::Malformed);
+    if n < 22 || header[21] != b'\n' {
+        return Ok(None);
     }
     Ok(columns::read(&header[..21]))
 }
@@ -138,8 +109,7 @@ fn replay_in(stdin: &mut Stdin, stdout: Stdout, text: &mut [u8]) -> io::Result<b
 
 // Replays the next script, or answers that there is none.
 fn replay_next(stdin: &mut Stdin, stdout: Stdout) -> io::Result<bool> {
-    let next = next_size(stdin)?;
-    let Column::Number(size) = next else {
+    let Some(size) = next_size(stdin)? else {
         return Ok(false);
     };
     if size > 65536 {
@@ -154,12 +124,10 @@ fn main(rt: HostRuntime) -> io::Result<()> {
     let mut stdin = rt.stdin();
     let stdout = rt.stdout();
     // more turns than any input has scripts, so that the loop is seen to end
-    let mut turns = u64::MAX;
-    while turns > 0 {
+    for _ in 0..u64::MAX {
         if !replay_next(&mut stdin, stdout)? {
-            return Ok(());
+            break;
         }
-        turns -= 1;
     }
     Ok(())
 }

@@ -1,0 +1,5 @@
+use Rattle.layouts.proofs.Tables.{answered}
+use Rattle.layouts.proofs.Bench.add.Goals as goal
+
+pub returns : goal.returns
+returns c = answered c.requires c.add.ensures
