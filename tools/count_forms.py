@@ -123,26 +123,32 @@ def by_hand():
                 yield path, n + 1, line.strip()
 
 
-def travellers():
-    """Functions that take the pool's four slices, or the stream's three slices and a length, one by one."""
+def functions():
+    """Each function with its parameters."""
     for path, lines in sources():
         text = "\n".join(lines)
         for m in re.finditer(r"fn (\w+)(?:<[^>]*>)?\(([^)]*)\)", text):
-            names = re.findall(r"(\w+):", m.group(2))
-            n = text[: m.start()].count("\n") + 1
-            if {"words", "next", "links", "gens"} <= set(names):
-                yield path, n, "fn %s (pool)" % m.group(1)
-            elif {"words", "next", "segments", "n"} <= set(names):
-                yield path, n, "fn %s (stream)" % m.group(1)
+            yield path, text[: m.start()].count("\n") + 1, m.group(1), m.group(2)
+
+
+def travellers():
+    """Functions that take the pool's four slices, or the stream's three slices and a length, one by one."""
+    for path, n, name, parameters in functions():
+        names = set(re.findall(r"(\w+):", parameters))
+        if {"words", "next", "links", "gens"} <= names:
+            yield path, n, "fn %s (pool)" % name
+        elif {"words", "next", "segments", "n"} <= names:
+            yield path, n, "fn %s (stream)" % name
 
 
 def lengths():
     """A slice or an array that goes with a length of its own."""
+    beside = r"(segments|list|line|groups|numbers|free): &(mut )?\[[^\]]*\],\s*(n|len|many): (usize|u64)"
+    for path, n, name, parameters in functions():
+        if re.search(beside, parameters):
+            yield path, n, "fn " + name
     for path, lines in sources():
         text = "\n".join(lines)
-        for m in re.finditer(r"fn (\w+)(?:<[^>]*>)?\(([^)]*)\)", text):
-            if re.search(r"(segments|list|line|groups|numbers|free): &(mut )?\[[^\]]*\],\s*(n|len|many): (usize|u64)", m.group(2)):
-                yield path, text[: m.start()].count("\n") + 1, "fn " + m.group(1)
         for m in re.finditer(r"struct (\w+) \{([^}]*)\}", text):
             if re.search(r"\blen: usize", m.group(2)) or ("free: [usize" in m.group(2) and "list: FreeList" in m.group(2)):
                 yield path, text[: m.start()].count("\n") + 1, "struct " + m.group(1)

@@ -3,7 +3,7 @@
 // Fresh tables, or a call: its compartment, then an add's or a remove's start, end and rights, the range whose greatest count is
 // asked for, the permission to read from, or the allowance.
 #[derive(Clone, Copy)]
-pub enum Row {
+pub(crate) enum Row {
     Fresh,
     Add(u64, u64, u64, u64),
     Remove(u64, u64, u64, u64),
@@ -16,7 +16,7 @@ use Row::{Add, Allow, Count, Fresh, Permissions, Remove};
 
 impl Row {
     // As the output names it: the call's number, and four more.
-    pub fn numbers(self) -> [u64; 5] {
+    pub(crate) fn numbers(self) -> [u64; 5] {
         match self {
             Fresh => [0; 5],
             Add(k, start, end, rights) => [1, k, start, end, rights],
@@ -28,7 +28,7 @@ impl Row {
     }
 }
 
-pub const LAYOUTS: [Row; 131] = [
+pub(crate) const LAYOUTS: [Row; 131] = [
     Add(0, 0, 10, 1), // records [0,5) 1, [5,10) 3, [10,15) 3, unjoined
     Add(0, 5, 15, 3),
     Permissions(0, 0),
