@@ -131,13 +131,15 @@ fn tell(rt: &impl Print, answer: Result<u64, u64>) -> io::Result<()> {
     println!(rt; "{number:>3}{value:>21}")
 }
 
-// Mappings, a line each.
+// Mappings, a line each, put together first so that it is one call and not one for each number.
 fn show_mappings(rt: &impl Print, numbers: &[u64]) -> io::Result<()> {
     for mapping in numbers.chunks_exact(5) {
-        for n in mapping {
-            print!(rt; "{n:>21}")?;
+        // all line ends at first: one is left behind the last number
+        let mut line = [b'\n'; 106];
+        for (i, n) in mapping.iter().enumerate() {
+            columns::write(&mut line, 21 * i, 21, *n);
         }
-        println!(rt; "")?;
+        rt.write_all(&line)?;
     }
     Ok(())
 }
