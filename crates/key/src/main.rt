@@ -1,43 +1,24 @@
 // The marking key: a script from standard input, its output to standard output, in bounded memory.
 #![tactic(auto)]
 
-ghost use Rattle.std.specs.Prelude.{◌≤◌, length, IfSome};
+ghost use Rattle.std.specs.Prelude.{◌≤◌, length};
 ghost use Rattle.key.specs.Stands.{Stands};
 
 use capability_engine::{POOL_LEN, Script, Tables};
 use std::io::{self, Read, Stdout};
 
-// A script as far as it has come, with the tables and the arrays that are lent to each call on them: fixed memory, since there is
-// no heap.
-#[derive(Clone, Copy)]
-struct Session {
-    words: [u64; POOL_LEN],
-    next: [usize; 1025],
-    links: [usize; 1024],
-    gens: [u64; 1024],
+// A script as far as it has come, with the tables, over the arrays that were lent to it: fixed memory, since there is no heap.
+#[derive(Drop)]
+struct Session<'a> {
+    words: &'a mut [u64],
+    next: &'a mut [usize],
+    links: &'a mut [usize],
+    gens: &'a mut [u64],
     tables: Tables,
     script: Script,
 }
 
-impl Session {
-    fn new() -> Option<Session>
-        ensures { IfSome result Stands }
-    {
-        let words = [0u64; POOL_LEN];
-        let next = [0usize; 1025];
-        let mut links = [0usize; 1024];
-        let mut gens = [0u64; 1024];
-        let tables = Tables::new(&words, &next, &mut links, &mut gens)?;
-        Some(Session {
-            words,
-            next,
-            links,
-            gens,
-            tables,
-            script: Script::new(),
-        })
-    }
-
+impl Session<'_> {
     // A piece of the script goes in, and its output, as far as it fits, into out.
     fn feed(&mut self, input: &[u8], out: &mut [u8])
         requires { Stands self.old }
@@ -50,10 +31,10 @@ impl Session {
             input,
             out,
             0,
-            &mut self.words,
-            &mut self.next,
-            &mut self.links,
-            &mut self.gens,
+            self.words,
+            self.next,
+            self.links,
+            self.gens,
         )
     }
 
@@ -100,7 +81,19 @@ fn run(session: &mut Session, mut stdin: impl Read + Drop, stdout: Stdout) -> io
 }
 
 fn main(rt: HostRuntime) {
-    if let Some(mut session) = Session::new() {
+    let mut words = [0u64; POOL_LEN];
+    let mut next = [0usize; 1025];
+    let mut links = [0usize; 1024];
+    let mut gens = [0u64; 1024];
+    if let Some(tables) = Tables::new(&words, &next, &mut links, &mut gens) {
+        let mut session = Session {
+            words: &mut words,
+            next: &mut next,
+            links: &mut links,
+            gens: &mut gens,
+            tables,
+            script: Script::new(),
+        };
         // it ends where its output cannot be written
         let _ = run(&mut session, rt.stdin(), rt.stdout());
     }
