@@ -1,6 +1,6 @@
 -- A call that may change one compartment, of all eight.
 use Prim.Native.Nat.{ℕ, ◌<◌}
-use mathlib.Core.Path.{◌≡◌, refl, sym, ap, ◌∙◌}
+use mathlib.Core.Path.{◌≡◌, refl, sym, ap, subst, ◌∙◌}
 use mathlib.Core.Bool.{true}
 use mathlib.Core.List.{List}
 use native.Mathlib.Omega.{arith}
@@ -16,12 +16,13 @@ use Rattle.gen_arena.specs.declared.GenArena.{GenArena}
 use Rattle.capability_engine.specs.declared.region.RegionTracker.{RegionTracker}
 use Rattle.capability_engine.specs.declared.remapper.Remapper.{Remapper}
 use Rattle.capability_engine.specs.declared.remapper.Change.{Change}
+use Rattle.capability_engine.specs.declared.remapper.Change.TheVariants.{Keep}
 use Rattle.capability_engine.specs.declared.compartments.Tables.{Tables}
 use Rattle.capability_engine.specs.CompartmentGrown.{trackers_of, Grown, Answers}
 use Rattle.capability_engine.specs.CompartmentSteps.{on_regions, on_segments, no_tracker, OnRegions, OnAllow, OnSegments, AsksSegments}
 use Rattle.capability_engine.specs.RemapHeld.{IsSound}
 use Rattle.capability_engine.specs.RemapAnswers.{Does, Decides}
-use Rattle.capability_engine.proofs.RemapCalls.{holding}
+use Rattle.capability_engine.proofs.RemapCalls.{holding, did-keep}
 use Rattle.capability_engine.proofs.CompartmentLaws.{eight}
 use Rattle.capability_engine.proofs.CompartmentFacts.{sound, regions-grown, allow-grown, segments-answer, segments-kept, segments-grown}
 
@@ -80,6 +81,14 @@ module _ (words nx links gens : List ℕ) (t : Tables) (calls : List Call) (g : 
               same_tables = λ i. record { arena = t.arena; trackers = t.trackers; remappers = e i };
             });
       })
+
+  -- a call that keeps the remapper as it is leaves all tables as they are
+  pub keeps-answers : (d : Remapper) (x : Answer) (r : Change) → on_segments call ≡ true → AsksSegments call (get_or t.remappers k d) r → r ≡ Keep x
+      → Answers calls call words nx links gens t words nx links gens t x
+  keeps-answers d x r s asks e =
+      let self : Remapper = get_or t.remappers k d in
+      subst (λ l. Answers calls call words nx links gens t words nx links gens (record { arena = t.arena; trackers = t.trackers; remappers = l }) x) (set-get_or t.remappers k d)
+      (segments-answers d self x s (settles call self r asks self x (λ a ss did. did-keep self a ss r did x e)))
 
 pub allows-answers : (words nx links gens : List ℕ) (t : Tables) (calls : List Call) (g : Grown words nx links gens t calls) (k n : ℕ) → k < 8
     → (ts : List RegionTracker) (r : Answer) → OnAllow t.trackers k n ts r

@@ -171,6 +171,10 @@ impl Tables {
     {
         let mut remapper = self.remappers[k];
         let change = on_segments(call, &remapper);
+        // what changes nothing costs no copy of the remapper
+        if let Change::Keep(answer) = change {
+            return answer;
+        }
         let answer = remapper.apply(change);
         self.remappers[k] = remapper;
         answer
