@@ -78,6 +78,13 @@ fn tell(out: Stdout, refusal: Refusal, value: u64) -> io::Result<()> {
     out.write_all(&line)
 }
 
+// The script for a wish that is a text. It has a function of its own so that its buffer is cleared once.
+fn write_script(stdout: Stdout, compartment: u64, allowance: u64, text: &[u8]) -> io::Result<()> {
+    let mut out = [0u8; SCRIPT_LEN];
+    let len = planner::plan_script(compartment, allowance, text, &mut out);
+    stdout.write_all(&out[..len])
+}
+
 // The script for a wish whose first bytes are a text that was read into a buffer of so many.
 fn plan(
     rt: HostRuntime,
@@ -95,9 +102,7 @@ fn plan(
     )? {
         return tell(rt.stdout(), refusal, value);
     }
-    let mut out = [0u8; SCRIPT_LEN];
-    let len = planner::plan_script(compartment, allowance, text, &mut out);
-    rt.stdout().write_all(&out[..len])
+    write_script(rt.stdout(), compartment, allowance, text)
 }
 
 fn usage(out: Stderr) -> io::Result<()> {
