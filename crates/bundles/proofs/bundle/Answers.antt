@@ -4,7 +4,7 @@ use Rattle.bundles.proofs.TurnLaws.{bundle-of-none, bundle-of-many, bundle-in-tu
 use Rattle.bundles.proofs.bundle.Goals as goal
 
 pub returns-in_err-index_of : goal.returns-in_err-index_of
-returns-in_err-index_of c = λ calls g. rw (handed c.from_residual.result _ c.from_residual.ensures.1 c.in_err-index_of.ensures.none.0) (bundle-of-none calls _ _ _ _ _ _ _ c.in_err-index_of.ensures.none.1 g)
+returns-in_err-index_of c = λ calls g. rw (handed c.from_residual.result _ c.from_residual.ensures.1 c.in_err-index_of.ensures.none.0) (bundle-of-none calls _ _ _ _ _ _ _ (omega (arith, c.in_err-index_of.ensures.none.1)) g)
 
 pub returns-then-groups-gt-BUNDLE_LEN : goal.returns-then-groups-gt-BUNDLE_LEN
 returns-then-groups-gt-BUNDLE_LEN c = λ calls g. bundle-of-many calls _ _ _ _ _ _ _ (omega (arith, c.in_ok-index_of.ensures.one)) (omega (arith, c.if-groups-gt-BUNDLE_LEN.true)) g

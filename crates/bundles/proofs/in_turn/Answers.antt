@@ -24,7 +24,7 @@ pub shape_of-gens-then-rest-lt-GROUP_LEN : goal.shape_of-gens-then-rest-lt-GROUP
 shape_of-gens-then-rest-lt-GROUP_LEN c = (lengths _ _ _ _ _ c.requires _ _ _ _ _ c.loop-rest.invariant.0).3
 
 pub returns-then-rest-lt-GROUP_LEN : goal.returns-then-rest-lt-GROUP_LEN
-returns-then-rest-lt-GROUP_LEN c = λ calls g. turning-short calls _ _ _ _ _ _ _ _ _ _ _ _ _ _ (c.loop-rest.invariant.1 calls g) (some-left _ _ c.is_empty.ensures c.loop-rest-test.true) c.if-rest-lt-GROUP_LEN.true
+returns-then-rest-lt-GROUP_LEN c = λ calls g. turning-short calls _ _ _ _ _ _ _ _ _ _ _ _ _ _ (c.loop-rest.invariant.1 calls g) (some-left _ _ c.is_empty.ensures c.loop-rest-test.true) (omega (arith, c.if-rest-lt-GROUP_LEN.true))
 
 pub judge-requires : goal.judge-requires
 judge-requires c = record { grown = c.loop-rest.invariant.0; four = c.split_at.ensures.front_len }
